@@ -1,0 +1,4 @@
+pub mod Tables
+pub mod Closure
+pub mod Books
+pub mod Steps

@@ -1,0 +1,6 @@
+pub mod Laws
+pub mod Tables
+pub mod Books
+pub mod Opening
+pub mod Leastness
+pub mod Faults

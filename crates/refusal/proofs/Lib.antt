@@ -1,0 +1,3 @@
+mod Shown
+pub mod Entries
+pub mod Order

@@ -1,0 +1,5 @@
+pub mod Numbers
+pub mod Refusals
+pub mod Order
+pub mod Sentences
+pub mod Entries
