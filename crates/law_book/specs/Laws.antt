@@ -5,6 +5,7 @@ use mathlib.Core.Bool.{Bool, true}
 use mathlib.Core.List.{List}
 use mathlib.Core.Logic.{_⊎_}
 use Rattle.std.specs.shelf.Lists.{Has}
+use Rattle.words.specs.declared.literal.Literal.{Literal}
 use Rattle.words.specs.declared.literals.Literals.{Literals}
 use Rattle.words.specs.Words.{Value, Member, Holds, Within, Common, Body}
 use Rattle.theory.specs.Meaning.{Meaning}
@@ -18,6 +19,19 @@ kind-number Static = 1
 kind-number Dynamic = 2
 kind-number Executability = 3
 
+-- the head is true in each state where the body holds
+abbrev pub static-law : Literal → Literals → Law
+static-law head body = record { kind = Static; action = 0; head = head; body = body }
+
+-- the action makes the head true if the body held before
+abbrev pub dynamic-law : ℕ → Literal → Literals → Law
+dynamic-law action head body = record { kind = Dynamic; action = action; head = head; body = body }
+
+-- the action may run where the body holds
+abbrev pub executability-law : ℕ → Literals → Law
+executability-law action body = record { kind = Executability; action = action; head = record { fluent = 0; sign = true }; body = body }
+
+-- what a law of this kind has in the fields that it does not use
 abbrev pub unused-by : Kind → Law → Type 0
 unused-by Static law = law .action ≡ 0
 unused-by Dynamic law = Unit {0}

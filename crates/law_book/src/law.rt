@@ -1,7 +1,7 @@
 // The records of a law book.
 ghost use mathlib.Core.Path.{_≡_};
 ghost use Rattle.std.specs.Orderings.{Decides};
-ghost use Rattle.law_book.specs.Laws.{Good, Unused, Obeys, Permission, TakesEffect, Fires, kind-number};
+ghost use Rattle.law_book.specs.Laws.{Good, Unused, Obeys, Permission, TakesEffect, Fires, kind-number, static-law, dynamic-law, executability-law};
 use words::literal::Literal;
 use words::literals::Literals;
 
@@ -25,8 +25,7 @@ impl Kind {
     }
 }
 
-// Static: the head is true in each state where the body holds. Dynamic: the action makes the head true if the body
-// held before. Executability: the action may run where the body holds.
+// A record of the table. A static law does not use its action, nor an executability law its head.
 #[derive(Clone, Copy)]
 pub struct Law {
     pub kind: Kind,
@@ -36,6 +35,45 @@ pub struct Law {
 }
 
 impl Law {
+    // The static law: the head is true in each state where the body holds.
+    pub fn static_law(head: Literal, body: Literals) -> Law
+        ensures { λ r. ⌜ r ≡ static-law head body ⌝ }
+    {
+        Law {
+            kind: Kind::Static,
+            action: 0,
+            head,
+            body,
+        }
+    }
+
+    // The dynamic law: the action makes the head true if the body held before.
+    pub fn dynamic_law(action: u32, head: Literal, body: Literals) -> Law
+        ensures { λ r. ⌜ r ≡ dynamic-law action head body ⌝ }
+    {
+        Law {
+            kind: Kind::Dynamic,
+            action,
+            head,
+            body,
+        }
+    }
+
+    // The executability law: the action may run where the body holds.
+    pub fn executability_law(action: u32, body: Literals) -> Law
+        ensures { λ r. ⌜ r ≡ executability-law action body ⌝ }
+    {
+        Law {
+            kind: Kind::Executability,
+            action,
+            head: Literal {
+                fluent: 0,
+                sign: true,
+            },
+            body,
+        }
+    }
+
     // Whether the fields that the kind does not use have their fixed values.
     fn leaves_unused(self) -> bool
         ensures { λ r. ⌜ Decides r (Unused self) ⌝ }

@@ -1,0 +1,4 @@
+pub mod Short
+pub mod Drain
+pub mod Twin
+pub mod Ring
