@@ -1,4 +1,5 @@
 // The opening of a law book.
+ghost use mathlib.Core.Path.{_≡_};
 ghost use Rattle.refusal.specs.Order.{Ordered};
 ghost use Rattle.law_book.specs.Tables.{AllGood};
 ghost use Rattle.law_book.specs.Opening.{Opens, laws-refused, open-refused, Opened};
@@ -17,6 +18,15 @@ const MOST_LAWS: usize = 512;
 pub struct Unopened {
     pub refusal: Refusal,
     pub laws: Vec<Law>,
+}
+
+// For a caller that needs only the reason: `?` passes the refusal on unchanged.
+pub impl From<Unopened> for Refusal as UnopenedRefusal {
+    ghost converts = { λ u r. r ≡ u .refusal };
+
+    fn from(value: Unopened) -> Refusal {
+        value.refusal
+    }
 }
 
 // Refuses the first law that breaks a rule.

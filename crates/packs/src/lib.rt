@@ -2,7 +2,6 @@
 pub mod drain;
 pub mod ring;
 mod short;
-pub mod twin;
-
 #[cfg(test)]
 mod tests;
+pub mod twin;

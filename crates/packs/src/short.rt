@@ -8,10 +8,7 @@ use words::literals::Literals;
 pub(crate) fn on(fluent: u32) -> Literal
     ensures { λ r. ⌜ r ≡ on-of fluent ⌝ }
 {
-    Literal {
-        fluent,
-        sign: true,
-    }
+    Literal { fluent, sign: true }
 }
 
 // The literal that the fluent is false.
@@ -28,8 +25,5 @@ pub(crate) fn off(fluent: u32) -> Literal
 pub(crate) fn body(truths: u32, falses: u32) -> Literals
     ensures { λ r. ⌜ r ≡ body-of truths falses ⌝ }
 {
-    Literals {
-        truths,
-        falses,
-    }
+    Literals { truths, falses }
 }

@@ -47,12 +47,12 @@ word-of Step = codes "step"
 
 -- a refusal that speaks of no part: its number and the reason in words
 abbrev pub shown-plain : ℕ → List ℕ → List ℕ
-shown-plain number sentence = codes "refusal " ++ (decimal number ++ (codes ": " ++ sentence))
+shown-plain number sentence = codes "refused by " ++ (decimal number ++ (codes ": " ++ sentence))
 
 -- a refusal that names a place: its number, the part with its place and number, and the reason in words
 abbrev pub shown-at : ℕ → List ℕ → ℕ → ℕ → List ℕ → List ℕ
 shown-at number word place part sentence =
-    codes "refusal "
+    codes "refused by "
     ++ (decimal number
     ++ (codes " at " ++ (word ++ (codes " " ++ (decimal place ++ (codes " (part " ++ (decimal part ++ (codes "): " ++ sentence))))))))
 

@@ -48,13 +48,13 @@ pub impl fmt::Display for Refusal as RefusalDisplay {
         let sentence = self.reason.sentence();
         let part = self.part.number();
         if part == 0 {
-            write!(f, "refusal {number}: {sentence}")
+            write!(f, "refused by {number}: {sentence}")
         } else {
             let word = self.part.word();
             let place = self.place;
             write!(
                 f,
-                "refusal {number} at {word} {place} (part {part}): {sentence}"
+                "refused by {number} at {word} {place} (part {part}): {sentence}"
             )
         }
     }

@@ -5,6 +5,7 @@ ghost use Prim.Native.Nat.{ℕ, _<_};
 ghost use Rattle.std.specs.Orderings.{Decides};
 ghost use Rattle.words.specs.Words.{Member, Holds, Within, Joined, Common, Body};
 use crate::literal::Literal;
+use crate::word::bit_at;
 use crate::word::first_fluents;
 use crate::word::is_below;
 
@@ -28,6 +29,18 @@ impl Literals {
             truths: all & (s & t),
             falses: all & !(s | t),
         }
+    }
+
+    // Whether the literal stands in the set.
+    pub fn contains(self, literal: Literal) -> bool
+        ensures { λ r. ⌜ Decides r (Member self (literal .fluent) (literal .sign)) ⌝ }
+    {
+        let mask = if literal.sign {
+            self.truths
+        } else {
+            self.falses
+        };
+        bit_at(mask, literal.fluent) == 1
     }
 
     // Whether each literal of the set is true in the word.
