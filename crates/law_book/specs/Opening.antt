@@ -18,7 +18,7 @@ use Rattle.theory.specs.Sizes.{Sizes, sizes-refused}
 use Rattle.law_book.specs.declared.book.LawBook.{LawBook}
 use Rattle.law_book.specs.declared.law.Law.{Law}
 use Rattle.law_book.specs.declared.open.Unopened.{Unopened}
-use Rattle.law_book.specs.Books.{book-meaning}
+use Rattle.law_book.specs.Books.{laws-of, book-meaning}
 use Rattle.law_book.specs.Laws.{Good, meaning-of}
 use Rattle.law_book.specs.Tables.{AllGood}
 
@@ -38,11 +38,16 @@ abbrev pub open-refused : ℕ → ℕ → List Law → List Ground
 open-refused fluents actions laws =
     sizes-refused fluents actions ++ (by (plain TableLength) (512 < length laws) ∷ laws-refused fluents actions laws)
 
--- The book that is opened means what exactly these sizes and laws mean. A refusal is the first that fits, and hands
--- the table back as it came.
+-- the book has exactly these sizes and laws: it means what they mean, and keeps the laws in their order
+pub record Book-of (fluents actions : ℕ) (laws : List Law) (b : LawBook) : Type 0 where
+  pub means : Same (book-meaning b) (meaning-of fluents actions laws)
+  pub table : laws-of b ≡ laws
+
+-- What opens is the book of these sizes and laws. What does not is refused by the first ground that fits, and the table
+-- comes back as it was handed in.
 abbrev pub Opened : ℕ → ℕ → Vec Law Global → Result LawBook Unopened → Type 0
 Opened fluents actions laws (Ok b) =
     Opens fluents actions (vec-items laws)
     × None-fits (open-refused fluents actions (vec-items laws))
-    × Same (book-meaning b) (meaning-of fluents actions (vec-items laws))
+    × Book-of fluents actions (vec-items laws) b
 Opened fluents actions laws (Err u) = First (open-refused fluents actions (vec-items laws)) (u .refusal) × (u .laws ≡ laws)

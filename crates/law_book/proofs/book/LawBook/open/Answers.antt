@@ -16,10 +16,8 @@ returns-in-Ok c =
       subst (Opens (c .args .sizes .0) (c .args .sizes .1)) (c .as-slice .ensures .value) (c .in-Ok .ensures tt .1),
       subst P (c .as-slice .ensures .value) (c .in-Ok .ensures tt .0),
       record {
-        fluents = refl;
-        actions = refl;
-        states = λ s. (λ h. h, λ h. h);
-        steps = λ s a t. (λ h. h, λ h. h);
+        means = record { fluents = refl; actions = refl; states = λ s. (λ h. h, λ h. h); steps = λ s a t. (λ h. h, λ h. h) };
+        table = refl;
       },
     )
 
