@@ -41,13 +41,6 @@ pub record Searched (laws : List Law) (s a : ℕ) (silent : Bool) (i : ℕ) : Ty
   pub none : silent ≡ true → Every (Silent a) laws 0 i
   pub some : silent ≡ false → (law : Law) × Has laws law × Permission a law
 
-pub search-none : (laws : List Law) (s a : ℕ) → Searched laws s a true 0
-search-none laws s a = record {
-  barred = λ k d p q. absurd (omega arith);
-  none = λ _ k d p q. absurd (omega arith);
-  some = λ e. absurd (true≢false e);
-}
-
 module _ (laws : List Law) (s a : ℕ) (silent : Bool) (i : ℕ) (inv : Searched laws s a silent i) (l : i < length laws) where
   pub barred-more : Permission a (getD laws i no-law) → (Holds (getD laws i no-law .body) s → ⊥) → Searched laws s a false (i + 1)
   barred-more p n = record {
@@ -89,9 +82,6 @@ pub record Gathered (laws : List Law) (s a : ℕ) (set grown : Literals) (i : �
   pub keeps : Within set grown
   pub has : Every (Effected s a grown) laws 0 i
   pub only : (f : ℕ) (v : Bool) → Member grown f v → Effect laws s a f v ⊎ Member set f v
-
-pub gather-none : (laws : List Law) (s a : ℕ) (set : Literals) → Gathered laws s a set set 0
-gather-none laws s a set = record { keeps = λ f v m. m; has = λ k d p q. absurd (omega arith); only = λ f v m. inr m }
 
 module _ (laws : List Law) (s a : ℕ) (set grown : Literals) (i : ℕ) (inv : Gathered laws s a set grown i) (l : i < length laws) where
   pub gather-more : Bounded laws → (new : Literals) → TakesEffect s a (getD laws i no-law)

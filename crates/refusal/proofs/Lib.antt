@@ -1,3 +1,2 @@
 mod Shown
 pub mod Entries
-pub mod Order

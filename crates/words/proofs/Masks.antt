@@ -1,17 +1,17 @@
 -- Sets of literals as two masks.
-use Prim.Native.Nat.{ℕ, _+_, _-_, _^_, _≤_, _<_, min}
+use Prim.Native.Nat.{ℕ, _+_, _-_, _^_, _<_, min}
 use mathlib.Core.Path.{_≡_, sym, ap, _∙_}
 use mathlib.Core.Bool.{Bool, true, false}
 use mathlib.Core.Logic.{_⊎_, inl, inr, ⊎-elim, _↔_}
 use native.Mathlib.Omega.{arith}
 use lib.Bits.{bitAnd, bitOr}
-use lib.Pow.{pow-pos, pow-mono}
+use lib.Pow.{pow-pos}
 use Rattle.std.proofs.shelf.Bits.{or-lt}
 use Rattle.std.proofs.shelf.Tests.{cases-lt, cases-eq, true≢false}
 use Rattle.words.specs.declared.literal.Literal.{Literal}
 use Rattle.words.specs.declared.literals.Literals.{Literals}
-use Rattle.words.specs.Words.{bit, Value, Member, Holds, Within, Joined, Common}
-use Rattle.words.proofs.Bit.{bit-or-zero, bit-and, bit-or, bit-not, bit-ones, bit-past, bit-set-same, bit-set-other, subset-sound, subset-whole, disjoint-sound, disjoint-whole}
+use Rattle.words.specs.Words.{bit, Member, Holds, Within, Joined, Common}
+use Rattle.words.proofs.Bit.{bit-and, bit-or, bit-not, bit-ones, bit-past, bit-set-same, bit-set-other, subset-sound, subset-whole, disjoint-sound, disjoint-whole}
 
 pub holds-from : (m : Literals) (w : ℕ) → bitAnd w (m .truths) ≡ m .truths → bitAnd w (m .falses) ≡ 0 → Holds m w
 holds-from m w p q f true h = subset-sound w (m .truths) p f h

@@ -2,7 +2,6 @@ use mathlib.Core.Logic.{inl}
 use native.Mathlib.Omega.{arith}
 use borrow.Author.Count.{below-more}
 use Rattle.std.proofs.shelf.Ways.{not-from-decides}
-use Rattle.refusal.specs.Entries.{Entry}
 use Rattle.refusal.proofs.Entries.{entry-good, entry-bad, good-has, no-bad}
 use Rattle.law_book.specs.Laws.{Good}
 use Rattle.law_book.proofs.Tables.{no-law}

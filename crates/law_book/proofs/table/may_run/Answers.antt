@@ -6,12 +6,9 @@ use native.Mathlib.Omega.{arith}
 use lib.ListN.{length, getD}
 use Rattle.std.proofs.shelf.Elements.{has-getD}
 use Rattle.std.proofs.shelf.Ways.{not-from-decides}
-use Rattle.law_book.proofs.Tables.{Searched, no-law, search-none, barred-more, silent-more, search-sound, search-whole}
+use Rattle.law_book.proofs.Tables.{Searched, no-law, barred-more, silent-more, search-sound, search-whole}
 use Rattle.law_book.proofs.table.may_run.Needs as need
 use Rattle.law_book.proofs.table.may_run.Needs.{then-is-permission·else-holds-in, else-is-permission}
-
-pub loop-law-holds : need.loop-law-holds
-loop-law-holds c = search-none (c .args .laws .now) (c .args .s) (c .args .a)
 
 pub returns-then-holds-in : need.returns-then-holds-in
 returns-then-holds-in c = (

@@ -4,12 +4,9 @@ use native.Mathlib.Omega.{arith}
 use lib.ListN.{length}
 use Rattle.std.proofs.shelf.Ways.{not-from-decides}
 use Rattle.words.specs.declared.literals.Literals.{Literals}
-use Rattle.law_book.proofs.Tables.{Gathered, gather-none, gather-more, gather-same, gather-all}
+use Rattle.law_book.proofs.Tables.{Gathered, gather-more, gather-same, gather-all}
 use Rattle.law_book.proofs.table.with_effects.Needs as need
 use Rattle.law_book.proofs.table.with_effects.Needs.{then-takes-effect, else-takes-effect}
-
-pub loop-law-holds : need.loop-law-holds
-loop-law-holds c = gather-none (c .args .laws .now) (c .args .s) (c .args .a) (c .args .set)
 
 pub loop-law-again : need.loop-law-again
 loop-law-again c =

@@ -21,10 +21,6 @@ loop-i-again g c =
     run-more m (g .T·Judging·met .ranged (c .args .theory .now)) (c .args .start) (c .loop-i .last) (c .loop-i .i) (c .args .steps .now) no-step (c .loop-i-test .taken) (c .loop-i .inv)
     (c .is-step .ensures .0 (c .if-not-is-step .left))
 
-pub returns-then-not-is-state : need.returns-then-not-is-state
-returns-then-not-is-state g c =
-    inl (c .plain .ensures, not-from-decides (c .is-state .result) (c .is-state .ensures) (c .if-not-is-state .taken))
-
 pub returns-then-not-is-step : need.returns-then-not-is-step
 returns-then-not-is-step g c =
     let m = g .T·Judging .meaning (c .args .theory .now) in

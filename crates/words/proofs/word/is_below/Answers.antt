@@ -1,8 +1,8 @@
-use Prim.Native.Nat.{_^_, _≤_, _<_}
+use Prim.Native.Nat.{_^_, _≤_}
 use native.Mathlib.Omega.{arith}
 use native.Mathlib.Nat.{div-eq-of-lt}
 use borrow.Author.Tests.{eq-eqb, eqb-true, le-leb}
-use lib.Pow.{pow-pos, pow-mono}
+use lib.Pow.{pow-mono}
 use Rattle.words.proofs.Bit.{below-from-shift}
 use Rattle.words.proofs.word.is_below.Needs as need
 

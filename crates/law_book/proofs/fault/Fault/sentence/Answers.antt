@@ -10,6 +10,3 @@ returns-in-ToNotAState c = ap fault-sentence (sym (c .in-ToNotAState .is))
 
 pub returns-in-Contrary : need.returns-in-Contrary
 returns-in-Contrary c = ap fault-sentence (sym (c .in-Contrary .is))
-
-pub returns-in-Uncaused : need.returns-in-Uncaused
-returns-in-Uncaused c = ap fault-sentence (sym (c .in-Uncaused .is))
