@@ -7,6 +7,10 @@ use crate::twin;
 use law_book::book::LawBook;
 use law_book::judge::LawBookJudging;
 use law_book::law::Law;
+use law_book::open::UnopenedRefusal;
+use refusal::part::Part;
+use refusal::reason::Reason;
+use refusal::refusal::Refusal;
 use refusal::refusal::RefusalDebug;
 use refusal::refusal::RefusalPartialEq;
 use std::alloc::Global;
@@ -38,6 +42,13 @@ fn refused(
             no.laws.len(),
         )),
     }
+}
+
+// The last state of a run from 7 against the laws; a refusal of either call comes up by `?`.
+fn last_state(laws: Vec<Law>, steps: &[Step]) -> Result<u32, Refusal> {
+    let book = LawBook::open(drain::SIZES, laws)?;
+    let last = check_record(&book, 7, steps)?;
+    Ok(last)
 }
 
 // The words below 16 to which the action leads, as bits.
@@ -139,4 +150,18 @@ fn recorded_runs(rt: LibcRuntime) -> Result<(), Fail> {
         return Err(Fail::new("3 is no state"));
     };
     check_eq((no.reason.number(), no.part.number(), no.place), (4, 0, 0))
+}
+
+#[test]
+fn refusals_come_up_unchanged(rt: LibcRuntime) -> Result<(), Fail> {
+    let heap = rt.alloc();
+    let release = Step {
+        action: drain::RELEASE,
+        to: 3,
+    };
+    let early = last_state(drain::laws().to_vec(heap)?, &[release]);
+    check_eq(early, Err(Refusal::at(Reason::NotAStep, Part::Step, 0)))?;
+    let far = Law::dynamic_law(3, on(0), body(0, 0));
+    let bad = last_state([far].to_vec(heap)?, &[release]);
+    check_eq(bad, Err(Refusal::at(Reason::BadEntry, Part::Law, 0)))
 }

@@ -1,4 +1,4 @@
-// Shows the pack book Drain in words, and holds two recorded runs against it.
+// Shows the pack book Drain in words, and holds three recorded runs against it.
 mod names;
 mod show;
 mod why;
@@ -32,6 +32,12 @@ const RELEASED_EARLY: [Step; 1] = [Step {
     to: 3,
 }];
 
+// The same release, recorded as having changed nothing.
+const RELEASED_IN_VAIN: [Step; 1] = [Step {
+    action: drain::RELEASE,
+    to: 7,
+}];
+
 fn run(rt: &LibcRuntime) -> Result<(), AnyError> {
     let laws = drain::laws().to_vec(rt.alloc())?;
     let Ok(book) = LawBook::open(drain::SIZES, laws) else {
@@ -40,6 +46,7 @@ fn run(rt: &LibcRuntime) -> Result<(), AnyError> {
     show_book(rt, &book)?;
     show_run(rt, &book, 1, 7, &DRAINED)?;
     show_run(rt, &book, 2, 7, &RELEASED_EARLY)?;
+    show_run(rt, &book, 3, 7, &RELEASED_IN_VAIN)?;
     Ok(())
 }
 

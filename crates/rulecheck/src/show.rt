@@ -15,6 +15,7 @@ use std::io;
 use theory::judging::Judging;
 use theory::recorded::check_record;
 use theory::step::Step;
+use words::word::first_fluents;
 
 // The sizes, the names, the laws and the states of the book.
 pub(crate) fn show_book(rt: &LibcRuntime, book: &LawBook) -> io::Result<()> {
@@ -36,7 +37,7 @@ pub(crate) fn show_book(rt: &LibcRuntime, book: &LawBook) -> io::Result<()> {
         println!(rt, "  {number}  {sentence}")?;
     }
     println!(rt, "States")?;
-    for s in 0..8u32 {
+    for s in 0..=first_fluents(fluents) {
         if book.is_state(s) {
             let word = Word(fluents, s);
             println!(rt, "  {word}")?;

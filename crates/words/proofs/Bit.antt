@@ -87,13 +87,6 @@ bit-set-same w k = omega (arith, bit-or w (2 ^ k) k, bit-pow k)
 pub bit-set-other : (w k f : ℕ) → f ≢ k → bit (bitOr w (2 ^ k)) f ≡ bit w f
 bit-set-other w k f n = omega (arith, bit-or w (2 ^ k) f, bit-pow-other k f n)
 
-pub bit-below : (n w f : ℕ) → w < 2 ^ n → bit w f ≡ 1 → f < n
-bit-below n w f h e = go (cases-lt f n)
-  where
-    go : (f < n) ⊎ (n ≤ f) → f < n
-    go (inl l) = l
-    go (inr l) = omega (arith, bit-past n w f h l)
-
 -- the bits of the mask m are among those of w
 pub subset-sound : (w m : ℕ) → bitAnd w m ≡ m → (f : ℕ) → bit m f ≡ 1 → bit w f ≡ 1
 subset-sound w m e f h = omega (arith, bit-and w m f, ap (λ x. bit x f) e)
