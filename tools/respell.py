@@ -12,7 +12,7 @@ Book-of Caused-is-least First-bad First-faulty Graph-of None-between None-fits O
 # definitions, fields and lemmas whose dashes become underscores
 WORDS = """
 all-caused all-links all-states ban-refused bans-of book-meaning drain-laws dynamic-law entries-refused executability-law
-fault-sentence fence-meaning few-links few-states graph-meaning kind-number latch-links latch-states laws-of link-of
+fault-sentence fence-meaning few-links few-states graph-meaning kind-number latch-links latch-states laws-of laws-refused link-of
 link-table links-of meaning-of none-contrary open-refused part-number reason-number record-refused ring-laws sentence-of
 shown-at shown-plain sizes-refused some-state state-below state-table states-of static-law step-action step-to
 tables-refused twin-laws
@@ -22,7 +22,7 @@ bit-pow bit-pow-other bit-set-other bit-set-same bit-zero bounded-from breaks-pa
 caused-from caused-is-least common-of common-sound common-whole contrary-by contrary-of contrary-sound contrary-whole
 disjoint-sound disjoint-whole entry-bad entry-good every-has every-read false-joined faulty-here fenced-more fenced-none
 from-given gather-all gather-more gather-same given-at-start good-has has-decided holds-falses holds-from holds-truths
-join-has join-keeps jump-of jump-past jump-up least-closed least-join least-smallest link-contained link-equal next-same
+join-has join-keeps jump-of jump-past jump-up law-more least-closed least-join least-smallest link-contained link-equal next-same
 no-bad no-ban no-law no-link none-contrary-from none-contrary-to none-faulty none-join of-tables pass-closed pass-more
 pass-none plain-shown ranged-from same-high search-sound search-whole silent-more smallest-like smallest-more so-far-all
 step-at stray-of subset-sound subset-whole sweep-all sweep-end sweep-past sweep-to to-given truth-joined with-false

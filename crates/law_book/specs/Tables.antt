@@ -1,7 +1,6 @@
 -- What holds of every law of a table.
 use Rattle.std.specs.Prelude.{ℕ, ◌<◌, List}
 use Rattle.std.specs.List.{ContainsAt as Has}
-use Rattle.refusal.specs.Entries.{AllKeep}
 use Rattle.law_book.specs.declared.law.Law.{Law}
 use Rattle.law_book.specs.Laws.{Good, Obeys}
 
@@ -11,7 +10,7 @@ Obeyed laws s = (law : Law) → Has laws law → Obeys s law
 
 -- every law keeps the rules of a book of these sizes
 abbrev pub AllGood : ℕ → ℕ → List Law → Type 0
-AllGood fluents actions laws = AllKeep (Good fluents actions) laws
+AllGood fluents actions laws = (law : Law) → Has laws law → Good fluents actions law
 
 -- the head of every law is a fluent of a word
 abbrev pub Bounded : List Law → Type 0

@@ -1,4 +1,6 @@
 // Law books: action theories given by a table of causal laws, in action language B.
+#![tactic(auto)]
+
 pub mod book;
 pub mod fault;
 pub mod judge;

@@ -1,4 +1,6 @@
 // Known packs and modules, as tables that open.
+#![tactic(auto)]
+
 pub mod drain;
 pub mod latch;
 pub mod ring;

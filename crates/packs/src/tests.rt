@@ -36,7 +36,7 @@ fn refused(
             no.refusal.reason.number(),
             no.refusal.part.number(),
             no.refusal.place,
-            no.tables.len(),
+            no.laws.len(),
         )),
     }
 }

@@ -1,4 +1,6 @@
 // Refusals: why a call said no, and where. Every other crate stands on this one.
+#![tactic(auto)]
+
 pub mod part;
 pub mod reason;
 pub mod refusal;

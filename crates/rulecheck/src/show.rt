@@ -1,127 +1,66 @@
-// Theories and recorded runs, for a person.
-use crate::names::{Names, Prohibition, Sentence};
-use crate::why::{Explain, show_why};
-use fence::ban::Ban;
-use law_book::law::Law;
+// The book and recorded runs, for a person.
+use crate::names::{Action, Fluent, Sentence, Word};
+use crate::why::show_why;
+use law_book::book::LawBook;
 use std::io;
 use theory::judging::Judging;
-use theory::listing::Listing;
 use theory::recorded::check_record;
-use theory::results::results;
 use theory::step::Step;
 use words::word::first_fluents;
 
-// The sizes and the names of a theory.
-pub(crate) fn show_names<T: Judging>(
-    rt: &HostRuntime,
-    title: &str,
-    names: Names,
-    theory: &T,
-) -> io::Result<()> {
-    let (fluents, actions) = theory.sizes();
-    println!(rt; "{title}: {fluents} fluents, {actions} actions")?;
+// The sizes, the names, the laws and the states of the book.
+pub(crate) fn show_book(rt: &HostRuntime, book: &LawBook) -> io::Result<()> {
+    let (fluents, actions) = book.sizes();
+    println!(rt; "Pack book Drain: {fluents} fluents, {actions} actions")?;
     println!(rt; "Fluents")?;
     for number in 0..fluents {
-        let name = names.fluent(number);
+        let name = Fluent(number);
         println!(rt; "  {number}  {name}")?;
     }
     println!(rt; "Actions")?;
     for number in 0..actions {
-        let name = names.action(number);
+        let name = Action(number);
         println!(rt; "  {number}  {name}")?;
     }
-    Ok(())
-}
-
-// The laws of a book.
-pub(crate) fn show_laws(rt: &HostRuntime, names: Names, laws: &[Law]) -> io::Result<()> {
     println!(rt; "Laws")?;
-    for (number, law) in laws.iter().enumerate() {
-        let sentence = Sentence(names, *law);
+    for (number, law) in book.laws().iter().enumerate() {
+        let sentence = Sentence(*law);
         println!(rt; "  {number}  {sentence}")?;
     }
-    Ok(())
-}
-
-// The bans of a fence.
-pub(crate) fn show_bans(
-    rt: &HostRuntime,
-    title: &str,
-    names: Names,
-    bans: &[Ban],
-) -> io::Result<()> {
-    println!(rt; "{title}")?;
-    println!(rt; "Bans")?;
-    for (number, ban) in bans.iter().enumerate() {
-        let prohibition = Prohibition(names, *ban);
-        println!(rt; "  {number}  {prohibition}")?;
-    }
-    Ok(())
-}
-
-// The states of a theory.
-pub(crate) fn show_states<T: Judging>(
-    rt: &HostRuntime,
-    names: Names,
-    theory: &T,
-) -> io::Result<()> {
-    let (fluents, _) = theory.sizes();
     println!(rt; "States")?;
     for s in 0..=first_fluents(fluents) {
-        if theory.is_state(s) {
-            let word = names.word(fluents, s);
+        if book.is_state(s) {
+            let word = Word(fluents, s);
             println!(rt; "  {word}")?;
         }
     }
-    Ok(())
-}
-
-// All steps of a theory, as its listing finds them.
-pub(crate) fn show_steps<T: Listing>(
-    rt: &HostRuntime,
-    names: Names,
-    theory: &T,
-) -> anyhow::Result<()> {
-    let (fluents, actions) = theory.sizes();
-    println!(rt; "Steps")?;
-    for s in 0..=first_fluents(fluents) {
-        for a in 0..actions {
-            let found = results(rt.alloc(), theory, s, a)?;
-            for t in found.iter() {
-                let action = names.action(a);
-                println!(rt; "  {action} from {s} to {t}")?;
-            }
-        }
-    }
-    println!(rt; "")?;
-    Ok(())
+    println!(rt; "")
 }
 
 // A recorded run step by step, and the verdict.
-pub(crate) fn show_run<T: Explain>(
+pub(crate) fn show_run(
     rt: &HostRuntime,
-    names: Names,
-    theory: &T,
+    book: &LawBook,
     number: u32,
     start: u32,
     steps: &[Step],
 ) -> io::Result<()> {
-    let (fluents, _) = theory.sizes();
-    let from = names.word(fluents, start);
+    let (fluents, _) = book.sizes();
+    let from = Word(fluents, start);
     println!(rt; "Recorded run {number}, from {from}")?;
     for (place, step) in steps.iter().enumerate() {
-        let action = names.action(step.action);
-        let to = names.word(fluents, step.to);
+        let action = Action(step.action);
+        let to = Word(fluents, step.to);
         println!(rt; "  step {place}: {action} to {to}")?;
     }
-    match check_record(theory, start, steps) {
+    match check_record(book, start, steps) {
         Ok(last) => {
-            let last = names.word(fluents, last);
-            println!(rt; "accepted: a trajectory, last state {last}")?;
+            let last = Word(fluents, last);
+            println!(rt; "accepted: a trajectory of the book, last state {last}")?;
         }
         Err(refusal) => {
             println!(rt; "{refusal}")?;
-            show_why(rt, names, theory, start, steps, refusal)?;
+            show_why(rt, book, start, steps, refusal)?;
         }
     }
     println!(rt; "")

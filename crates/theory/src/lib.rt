@@ -1,4 +1,6 @@
 // Action theories: what one means, the interfaces that ask it, and recorded runs held against one.
+#![tactic(auto)]
+
 pub mod judging;
 pub mod listing;
 pub mod recorded;

@@ -20,27 +20,6 @@ has_decided : (x : ℕ) (xs : List ℕ) → Decides (lists_word x xs) (Has xs x)
 unfolding lists_word
 has_decided x = Decides-by_or (λ y. nat_eq y x) (λ y. y ≡ x) (lists_word x) (λ y. Decides-eqb y x) refl (λ y ys. refl)
 
--- what the derived == of links answers
-abbrev LinkEquals : Link → Link → Bool → Type 0
-LinkEquals x y r =
-    cond r (Decides true (x.from ≡ y.from) × (Decides true (x.action ≡ y.action) × Decides true (x.to ≡ y.to)))
-    ((Decides false (x.from ≡ y.from) → ⊥) → (Decides false (x.action ≡ y.action) → ⊥) → (Decides false (x.to ≡ y.to) → ⊥) → ⊥)
-
-link_equal : (x y : Link) (r : Bool) → LinkEquals x y r → Decides r (x ≡ y)
-link_equal x y true h = (λ _ i. record { from = h.0.0 refl i; action = h.1.0.0 refl i; to = h.1.1.0 refl i }, λ _. refl)
-link_equal x y false h = (
-  λ z. absurd (false≢true z),
-  λ e. absurd (h (λ d. false≢true (d.1 (ap (λ z. z.from) e))) (λ d. false≢true (d.1 (ap (λ z. z.action) e))) (λ d. false≢true (d.1 (ap (λ z. z.to) e)))),
-)
-
--- whether a link stands in the table, by that ==
-pub link_contained : (xs : List Link) (x : Link) (r : Bool) → IsAnyAnswer (λ y. LinkEquals y x) xs r → Decides r (Has xs x)
-link_contained xs x true h = (λ _. (h.0, h.1, λ d. (link_equal (slice_index_or xs h.0 d) x true (h.2 d)).0 refl), λ _. refl)
-link_contained xs x false h = (
-  λ z. absurd (false≢true z),
-  λ w. absurd (false≢true ((link_equal (slice_index_or xs w.0 x) x false (h w.0 x zero-le w.1)).1 (w.2 x))),
-)
-
 module _ (fluents actions : ℕ) (states : List ℕ) (links : List Link) (good : ∥ GoodTables fluents actions states links ∥₁) where
   -- a word of which the rules say that it stands in the state table does so
   stands : (x : ℕ) → (GoodTables fluents actions states links → Has states x) → Has states x

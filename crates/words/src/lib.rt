@@ -1,4 +1,6 @@
 // Words, literals and sets of literals.
+#![tactic(auto)]
+
 pub mod literal;
 pub mod literals;
 pub mod turned;

@@ -44,9 +44,12 @@ fn bans_take_steps_away(rt: HostRuntime) -> Result<(), Fail> {
     assert!(rt; fence.below().is_step(7, drain::THAW, 6));
     assert_eq!(rt;
         results(heap, &fence, 7, drain::DISCHARGE)?.as_slice(),
-        &[5]
+        [5].as_slice()
     );
-    assert_eq!(rt; results(heap, &fence, 5, drain::THAW)?.as_slice(), &[4]);
+    assert_eq!(rt;
+        results(heap, &fence, 5, drain::THAW)?.as_slice(),
+        [4].as_slice()
+    );
     let mut outer = Fence::over(fence);
     outer.ban(DISCHARGE_WHERE_WARM)?;
     assert!(rt; outer.is_step(7, drain::DISCHARGE, 5) && !outer.is_step(6, drain::DISCHARGE, 4));
@@ -80,7 +83,7 @@ fn bans_are_refused_in_order(rt: HostRuntime) -> Result<(), Fail> {
     let full = Err(Refusal::plain(Reason::TableLength));
     assert_eq!(rt; fence.ban(DISCHARGE_WHERE_WARM), full);
     assert_eq!(rt; fence.ban(far), full);
-    assert_eq!(rt; fence.bans(), &[THAW_WHERE_FULL; 16]);
+    assert_eq!(rt; fence.bans(), [THAW_WHERE_FULL; 16].as_slice());
     assert!(rt; fence.is_step(6, drain::DISCHARGE, 4));
     Ok(())
 }

@@ -57,7 +57,10 @@ fn latch_is_listed(rt: HostRuntime) -> Result<(), Fail> {
     let graph = graph(heap, latch::SIZES, &latch::states(), &latch::links())?;
     assert_eq!(rt; graph.sizes(), (2, 4));
     assert!(rt; graph.is_state(3) && !graph.is_state(2) && !graph.is_state(4));
-    assert_eq!(rt; results(heap, &graph, 0, latch::PRESS)?.as_slice(), &[0, 1]);
+    assert_eq!(rt;
+        results(heap, &graph, 0, latch::PRESS)?.as_slice(),
+        [0, 1].as_slice()
+    );
     assert_eq!(rt; graph.next(0, latch::PRESS, 1), Some(1));
     assert_eq!(rt; graph.next(0, latch::PRESS, 2), None);
     assert_eq!(rt; graph.next(3, latch::LIFT, 0), None);
@@ -80,8 +83,8 @@ fn repeats_are_lawful(rt: HostRuntime) -> Result<(), Fail> {
     let heap = rt.alloc();
     let twice = [link(2, 0, 5), link(2, 0, 5), link(2, 0, 2), link(5, 0, 5)];
     let graph = graph(heap, (3, 1), &[5, 2, 5], &twice)?;
-    assert_eq!(rt; results(heap, &graph, 2, 0)?.as_slice(), &[2, 5]);
-    assert_eq!(rt; results(heap, &graph, 5, 0)?.as_slice(), &[5]);
+    assert_eq!(rt; results(heap, &graph, 2, 0)?.as_slice(), [2, 5].as_slice());
+    assert_eq!(rt; results(heap, &graph, 5, 0)?.as_slice(), [5].as_slice());
     assert!(rt; graph.is_state(5) && graph.is_state(2) && !graph.is_state(0));
     assert!(rt; graph.is_step(2, 0, 5) && !graph.is_step(5, 0, 2));
     Ok(())

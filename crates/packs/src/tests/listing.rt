@@ -17,7 +17,7 @@ fn drain_and_twin_are_listed(rt: HostRuntime) -> Result<(), Fail> {
     assert_eq!(rt; book.next(7, drain::RELEASE, 0), None);
     assert_eq!(rt; book.next(6, 3, 0), None);
     let twin = opened(heap, twin::SIZES, &twin::laws())?;
-    assert_eq!(rt; results(heap, &twin, 0, 0)?.as_slice(), &[3, 5]);
+    assert_eq!(rt; results(heap, &twin, 0, 0)?.as_slice(), [3, 5].as_slice());
     assert_eq!(rt; twin.next(0, 0, u32::MAX), None);
     Ok(())
 }
@@ -40,16 +40,19 @@ fn few_fluents_turn_of_many(rt: HostRuntime) -> Result<(), Fail> {
     assert_eq!(rt; book.turnable(0, 0), after | 1 << 8 | 1 << 9);
     assert_eq!(rt;
         results(heap, &book, 0, 0)?.as_slice(),
-        &[after | 1 << 8, after | 1 << 9]
+        [after | 1 << 8, after | 1 << 9].as_slice()
     );
     assert_eq!(rt;
         results(heap, &book, 1 << 5, 0)?.as_slice(),
-        &[after | 1 << 8, after | 1 << 9]
+        [after | 1 << 8, after | 1 << 9].as_slice()
     );
     assert_eq!(rt; book.next(0, 0, after | 1 << 9 | 1), None);
     assert_eq!(rt; book.turnable(0, 1), 1);
-    assert_eq!(rt; results(heap, &book, 0, 1)?.as_slice(), &[1]);
+    assert_eq!(rt; results(heap, &book, 0, 1)?.as_slice(), [1].as_slice());
     let still = u32::MAX - (1 << 5);
-    assert_eq!(rt; results(heap, &book, still, 0)?.as_slice(), &[still]);
+    assert_eq!(rt;
+        results(heap, &book, still, 0)?.as_slice(),
+        [still].as_slice()
+    );
     Ok(())
 }

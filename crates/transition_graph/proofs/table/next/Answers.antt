@@ -16,7 +16,7 @@ loop-link-preserved c =
     let P : Option ℕ → Type 0 = λ r. SmallestFrom c.args.least (Leads links c.args.s c.args.a c.args.least (i + 1)) r in
     elim c.if-link-s.branch [
       | then-link-s+then-link-a+then-link-least w ↦
-          let value = w.min.ensures ∙ ap (λ n. min n to) w.unwrap-or.ensures in
+          let value = w.min.ensures ∙ ap (λ n. min n to) w.unwrap_or.ensures in
           subst P (sym (w.found-is ∙ ap Some value))
           (next_more links c.args.s c.args.a c.args.least i c.loop-link.found c.loop-link-test.true c.loop-link.invariant w.if-link-s.true w.if-link-a.true w.if-link-least.true)
       | else-link-s w ↦ subst P (sym w.found-is) (next_same links c.args.s c.args.a c.args.least i c.loop-link.found c.loop-link-test.true c.loop-link.invariant

@@ -12,7 +12,7 @@ returns g c =
     let f = c.args.self.now in
     let m = g.W.Judging.meaning f.below in
     let room : f.count < length f.bans = omega arith in
-    let good = c.is-good.ensures.0 c.if-not-is-good.false in
+    let good = c.is_good.ensures.0 c.if-not-is_good.false in
     let bans = take_more_set f.bans f.count c.args.ban room in
     let P : List Ban → Type 0 = λ xs. Same (fenced xs m) (fenced (c.args.ban ∷ []) (fenced (bans_of f) m)) in (
       (

@@ -7,9 +7,9 @@ use Rattle.law_book.proofs.book.LawBook.breaks.Goals as goal
 
 pub returns-then-place-laws : goal.returns-then-place-laws
 returns-then-place-laws c =
-    let P : List Law → Type 0 = λ xs. Decides (not c.is-obeyed.result) (Breaks xs c.args.word c.args.place) in
+    let P : List Law → Type 0 = λ xs. Decides (not c.is_obeyed.result) (Breaks xs c.args.word c.args.place) in
     subst P c.laws-laws.ensures
-    (breaks_within c.laws-laws.result.now c.args.word c.args.place no_law c.is-obeyed.result c.if-place-laws.true c.is-obeyed.ensures)
+    (breaks_within c.laws-laws.result.now c.args.word c.args.place no_law c.is_obeyed.result c.if-place-laws.true c.is_obeyed.ensures)
 
 pub returns-else-place-laws : goal.returns-else-place-laws
 returns-else-place-laws c =

@@ -5,5 +5,5 @@ use Rattle.law_book.proofs.book.LawBook.permits.Goals as goal
 
 pub returns : goal.returns
 returns c =
-    let P : List Law → Type 0 = λ xs. Decides c.may-run.result (MayRun xs c.args.s c.args.a) in
-    subst P c.laws.ensures c.may-run.ensures
+    let P : List Law → Type 0 = λ xs. Decides c.may_run.result (MayRun xs c.args.s c.args.a) in
+    subst P c.laws.ensures c.may_run.ensures

@@ -6,5 +6,5 @@ use Rattle.law_book.proofs.list.LawBookListing.next.Goals as goal
 pub returns : goal.returns
 returns c =
     let m = book_meaning c.args.self.now in
-    smallest_like (Turning m c.args.s c.args.a c.turnable.result) (m.Step c.args.s c.args.a) c.args.least c.next-turning.result
-    (λ t _ h. h.step) (λ t _ h. record { step = h; turned = c.turnable.ensures.covers t h }) c.next-turning.ensures
+    smallest_like (Turning m c.args.s c.args.a c.turnable.result) (m.Step c.args.s c.args.a) c.args.least c.next_turning.result
+    (λ t _ h. h.step) (λ t _ h. record { step = h; turned = c.turnable.ensures.covers t h }) c.next_turning.ensures
