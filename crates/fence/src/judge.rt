@@ -1,6 +1,6 @@
 // A fence judges words and steps by the theory below and its bans.
 ghost use Rattle.fence.specs.Fences.{fence_meaning};
-ghost use Rattle.std.proofs.Common.{rules, arith};
+ghost use Rattle.std.proofs.Common.{rules};
 
 use crate::fence::Fence;
 use theory::judging::Judging;
@@ -8,7 +8,7 @@ use theory::judging::Judging;
 impl<W: Judging> Judging for Fence<W> {
     ghost meaning = { λ f. fence_meaning W.Judging.meaning f };
 
-    ghost ranged = { first_of (Prim.search rules, Prim.grind (arith, Self.row.coded.inj)) };
+    ghost ranged = { Prim.search rules };
 
     fn sizes(&self) -> (u32, u32) {
         self.below.sizes()

@@ -1,6 +1,6 @@
 // A law book judges words and steps.
 ghost use Rattle.law_book.specs.Books.{book_meaning};
-ghost use Rattle.std.proofs.Common.{rules, arith};
+ghost use Rattle.std.proofs.Common.{rules};
 
 use crate::book::LawBook;
 use theory::judging::Judging;
@@ -8,7 +8,7 @@ use theory::judging::Judging;
 impl Judging for LawBook {
     ghost meaning = { λ b. book_meaning b };
 
-    ghost ranged = { first_of (Prim.search rules, Prim.grind (arith, Self.row.coded.inj)) };
+    ghost ranged = { Prim.search rules };
 
     fn sizes(&self) -> (u32, u32) {
         (self.fluents, self.actions)
