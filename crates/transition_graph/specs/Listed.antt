@@ -1,11 +1,9 @@
 -- Whether a word stands in a table, and what the tables' rules give.
-use Rattle.std.specs.Prelude.{◌≡◌, ℕ, Bool, true, false, cond, ◌||◌, List, [], ◌∷◌, Decides, ◌==◌, nat_eq, slice_index_or, refl}
-use Rattle.std.proofs.Common.{zero-le, ap}
+use Rattle.std.specs.Prelude.{◌≡◌, ℕ, Bool, true, false, ◌||◌, List, [], ◌∷◌, Decides, ◌==◌, nat_eq, refl}
 use Rattle.std.proofs.Math.Bool.{Bool-set}
 use Rattle.std.proofs.Math.Logic.{∥∥₁_elim}
 use Rattle.std.proofs.Math.Bridge.{le_prop}
-use Rattle.std.specs.List.{IsAnyAnswer, ContainsAt as Has}
-use Rattle.std.proofs.lemmas.Bool.{false≢true}
+use Rattle.std.specs.List.{ContainsAt as Has}
 use Rattle.std.proofs.lemmas.Bool.Decides.{Decides-eqb, Decides-by_or}
 use Rattle.theory.specs.Meaning.{Ranged}
 use Rattle.theory.specs.Sizes.{Sizes}
