@@ -1,4 +1,5 @@
--- Whether a word stands in a table, and what the tables' rules give.
+-- Lemmas for the ranges of a graph's meaning: the proof in src/judge.rt may cite only what stands in specs/. A word either
+-- stands in a table or does not, so what good tables say of one holds of these.
 use Rattle.std.specs.Prelude.{◌≡◌, ℕ, Bool, true, false, ◌||◌, List, [], ◌∷◌, Decides, ◌==◌, nat_eq, refl}
 use Rattle.std.proofs.Math.Bool.{Bool-set}
 use Rattle.std.proofs.Math.Logic.{∥∥₁_elim}
