@@ -1,6 +1,7 @@
 """Brings this repository's own definitions and lemmas to the spelling of Rattle: words in snake case, types and facts in
-camel case. Run once at the top, after the toolchain's port.py; it goes by text over .rt and .antt files and edits, and
-leaves functions of src/, strings and the goals' generated names alone."""
+camel case. Run once at the top, after the toolchain's port.py. It goes by text over .rt and .antt files and edits, and by
+the names listed here alone, none of which stands in a string or is a function of src/. It prints a new name that a
+definition, a lemma or a function has already."""
 
 import pathlib
 import re
@@ -45,7 +46,7 @@ top = pathlib.Path(__file__).resolve().parent.parent
 files = [p for end in ("rt", "antt", "edit") for p in top.glob(f"crates/**/*.{end}") if "out" not in p.parts]
 before = {p: p.read_text() for p in files}
 
-taken = set(re.findall(f"(?<!{EDGE})[A-Za-z]{EDGE}*", "\n".join(t for p, t in before.items() if p.suffix == ".antt")))
+taken = set(re.findall(f"(?<!{EDGE})[A-Za-z]{EDGE}*", "\n".join(before.values())))
 for old, new in NAMES.items():
     if new in taken:
         print(f"falls together: {old} and {new}")
