@@ -1,6 +1,5 @@
 -- Bans, and what a list of them leaves of a theory.
-use Rattle.std.specs.Prelude.{◌≡◌, ℕ, ◌<◌, ◌≤◌, List, [], ◌∷◌, length}
-use Rattle.std.specs.List.{ContainsAt as Has}
+use Rattle.std.specs.Prelude.{◌≡◌, ℕ, ◌<◌, ◌≤◌, List, [], ◌∷◌, length, Any}
 use Rattle.refusal.specs.declared.part.Part.TheVariants.{Ban as BanPart}
 use Rattle.refusal.specs.declared.reason.Reason.TheVariants.{TableLength, BadEntry}
 use Rattle.refusal.specs.Order.{Ground, by}
@@ -20,10 +19,8 @@ pub record Bars (s a : ℕ) (ban : Ban) : Type 0 where
   pub holds : Holds ban.body s
 
 -- one of the bans bars a in s
-pub record Barred (bans : List Ban) (s a : ℕ) : Type 0 where
-  pub ban : Ban
-  pub stands : Has bans ban
-  pub bars : Bars s a ban
+abbrev pub Barred : List Ban → ℕ → ℕ → Type 0
+Barred bans s a = Any (Bars s a) bans
 
 -- a step of the theory below that no ban bars
 pub record Allowed (bans : List Ban) (below : Meaning) (s a t : ℕ) : Type 0 where

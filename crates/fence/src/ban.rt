@@ -1,11 +1,11 @@
 // The bans of a fence.
-ghost use Rattle.std.specs.Prelude.{Decides};
+ghost use Rattle.std.specs.Prelude.{◌↔◌, IsTrue};
 ghost use Rattle.fence.specs.Bans.{GoodBan, Bars};
 
 use words::literals::Literals;
 
 // An action, and the literals that bar it: it may not run where all of them are true.
-#[derive(Clone, Copy, PartialEq, Eq, Debug)]
+#[derive(Clone, Copy, PartialEq, Eq, Debug, Default)]
 pub struct Ban {
     pub action: u32,
     pub body: Literals,
@@ -14,14 +14,14 @@ pub struct Ban {
 impl Ban {
     // Whether the ban keeps the rules over a theory of these sizes.
     pub(crate) fn is_good(self, fluents: u32, actions: u32) -> bool
-        ensures { Decides result (GoodBan fluents actions self) }
+        ensures { IsTrue result ↔ GoodBan fluents actions self }
     {
         self.action < actions && self.body.is_body(fluents)
     }
 
     // Whether it bars the action in s.
     pub fn bars(self, s: u32, a: u32) -> bool
-        ensures { Decides result (Bars s a self) }
+        ensures { IsTrue result ↔ Bars s a self }
     {
         self.action == a && self.body.holds_in(s)
     }

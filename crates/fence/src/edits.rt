@@ -1,28 +1,16 @@
 // The making of a fence, and its bans.
-ghost use Rattle.std.specs.Prelude.{◌≡◌, [], Decides};
+ghost use Rattle.std.specs.Prelude.{◌≡◌, ◌↔◌, [], IsTrue};
 ghost use Rattle.theory.specs.Meaning.{Same};
 ghost use Rattle.fence.specs.Bans.{Barred};
 ghost use Rattle.fence.specs.Fences.{bans_of, fence_meaning, Adds};
 
 use crate::ban::Ban;
 use crate::fence::Fence;
+use arrayvec::ArrayVec;
 use refusal::part::Part;
 use refusal::reason::Reason;
 use refusal::refusal::Refusal;
 use theory::judging::Judging;
-use words::literals::Literals;
-
-// The most bans of a fence.
-const MOST_BANS: usize = 16;
-
-// What fills the table behind the bans.
-const NO_BAN: Ban = Ban {
-    action: 0,
-    body: Literals {
-        truths: 0,
-        falses: 0,
-    },
-};
 
 impl<W> Fence<W> {
     // The theory below.
@@ -36,20 +24,14 @@ impl<W> Fence<W> {
     pub fn bans(&self) -> &[Ban]
         ensures { result.now ≡ bans_of self.now }
     {
-        &self.bans[0..self.count]
+        self.bans.as_slice()
     }
 
     // Whether a ban bars the action in s.
     pub(crate) fn is_barred(&self, s: u32, a: u32) -> bool
-        ensures { Decides result (Barred (bans_of self.now) s a) }
+        ensures { IsTrue result ↔ Barred (bans_of self.now) s a }
     {
-        let bans = self.bans();
-        for ban in bans {
-            if ban.bars(s, a) {
-                return true;
-            }
-        }
-        false
+        self.bans.iter().any(|ban| ban.bars(s, a))
     }
 }
 
@@ -62,8 +44,7 @@ impl<W: Judging> Fence<W> {
     {
         Fence {
             below,
-            bans: [NO_BAN; 16],
-            count: 0,
+            bans: ArrayVec::new(),
         }
     }
 
@@ -71,15 +52,14 @@ impl<W: Judging> Fence<W> {
     pub fn ban(&mut self, ban: Ban) -> Result<(), Refusal>
         ensures { Adds W.Judging.meaning self.old ban result self.new }
     {
-        if self.count >= MOST_BANS {
+        if self.bans.is_full() {
             return Err(Refusal::plain(Reason::TableLength));
         }
         let (fluents, actions) = self.below.sizes();
         if !ban.is_good(fluents, actions) {
             return Err(Refusal::at(Reason::BadEntry, Part::Ban, 0));
         }
-        self.bans[self.count] = ban;
-        self.count += 1;
+        self.bans.push(ban);
         Ok(())
     }
 }

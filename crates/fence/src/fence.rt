@@ -1,14 +1,14 @@
 // A fence over a theory.
-ghost use Rattle.std.specs.Prelude.{◌≡◌, ◌≤◌, length};
-
 use crate::ban::Ban;
+use arrayvec::ArrayVec;
 
-// The theory below, held by value, and the first `count` bans of a plain table.
+// The most bans of a fence.
+const MOST_BANS: usize = 16;
+
+// The theory below, held by value, and the bans.
 #[derive(Drop)]
 pub struct Fence<W> {
     pub(crate) below: W,
-    pub(crate) bans: [Ban; 16],
-    pub(crate) count: usize,
-    ghost whole: { length bans ≡ 16 },
-    ghost few: { count ≤ 16 },
+    // Sixteen places in the fence itself, so one more ban never allocates.
+    pub(crate) bans: ArrayVec<Ban, MOST_BANS>,
 }

@@ -1,10 +1,10 @@
 -- The least set of literals that contains a base and is closed under the static laws.
 use Rattle.std.proofs.Common.{◌≡◌, ℕ, ◌+◌, ◌-◌, ◌^◌, ◌<◌, ◌≤◌, Bool, ◌⊎◌, ◌↔◌, List, sym, refl, subst, inl, inr, ⊎_elim, arith}
-use lib.Bits.{and_le_l}
 use Rattle.std.proofs.lemmas.Bool.{cases_eq}
 use Rattle.words.specs.declared.literals.Literals.{Literals}
 use Rattle.words.specs.Words.{Member, Within, Common}
-use Rattle.words.proofs.Masks.{within_truths, within_falses}
+use Rattle.words.proofs.Bit.{covers_le}
+use Rattle.words.proofs.Masks.{within_to}
 use Rattle.law_book.specs.declared.law.Law.{Law}
 use Rattle.law_book.specs.Laws.{Effect, Least, base, follows, Closed, Given, Caused}
 
@@ -30,10 +30,7 @@ abbrev pub room : Literals → ℕ
 room m = (2 ^ 32 - m.truths) + (2 ^ 32 - m.falses)
 
 within_le : (m n : Literals) → m.truths < 2 ^ 32 → m.falses < 2 ^ 32 → Within m n → (m.truths ≤ n.truths) × (m.falses ≤ n.falses)
-within_le m n a b h = (
-  subst (λ x. x ≤ n.truths) (within_truths m n a h) (and_le_l n.truths m.truths),
-  subst (λ x. x ≤ n.falses) (within_falses m n b h) (and_le_l n.falses m.falses),
-)
+within_le m n a b h = let k = within_to m n h in (covers_le n.truths m.truths a k.0, covers_le n.falses m.falses b k.1)
 
 pub room_falls : (m n : Literals) → m.truths < 2 ^ 32 → m.falses < 2 ^ 32 → n.truths < 2 ^ 32 → n.falses < 2 ^ 32
     → Within m n → (Within n m → ⊥) → room n < room m

@@ -1,6 +1,5 @@
 -- Law records, and the meaning of a table of them.
-use Rattle.std.specs.Prelude.{◌≡◌, ℕ, ◌^◌, ◌<◌, Bool, true, ◌⊎◌, List}
-use Rattle.std.specs.List.{ContainsAt as Has}
+use Rattle.std.specs.Prelude.{◌≡◌, ℕ, ◌^◌, ◌<◌, Bool, true, ◌⊎◌, List, All, Any, Contains}
 use Rattle.words.specs.declared.literal.Literal.{Literal}
 use Rattle.words.specs.declared.literals.Literals.{Literals}
 use Rattle.words.specs.Words.{Value, Member, Holds, Within, Common, Body}
@@ -27,15 +26,11 @@ dynamic_law action head body = record { kind = Dynamic; action = action; head = 
 abbrev pub executability_law : ℕ → Literals → Law
 executability_law action body = record { kind = Executability; action = action; head = record { fluent = 0; sign = true }; body = body }
 
--- what a law of this kind has in the fields that it does not use
-abbrev pub UnusedBy : Kind → Law → Type 0
-UnusedBy Static law = law.action ≡ 0
-UnusedBy Dynamic law = Unit {0}
-UnusedBy Executability law = (law.head.fluent ≡ 0) × (law.head.sign ≡ true)
-
 -- the fields that a law's kind does not use: a static law has action 0, an executability law fluent 0 with sign true
-abbrev pub Unused : Law → Type 0
-Unused law = UnusedBy law.kind law
+pub record Unused (law : Law) : Type 0 where
+  pub static_action : law.kind ≡ Static → law.action ≡ 0
+  pub executability_fluent : law.kind ≡ Executability → law.head.fluent ≡ 0
+  pub executability_sign : law.kind ≡ Executability → law.head.sign ≡ true
 
 -- what a law record keeps in a book of these sizes
 pub record Good (fluents actions : ℕ) (law : Law) : Type 0 where
@@ -52,6 +47,11 @@ Obeys w law = law.kind ≡ Static → Holds law.body w → Value w law.head.flue
 pub record Permission (a : ℕ) (law : Law) : Type 0 where
   pub kind : law.kind ≡ Executability
   pub action : law.action ≡ a
+
+-- an executability law of the action a whose body holds in s
+pub record Permits (s a : ℕ) (law : Law) : Type 0 where
+  pub permission : Permission a law
+  pub holds : Holds law.body s
 
 -- a dynamic law of the action a whose body holds in s
 pub record TakesEffect (s a : ℕ) (law : Law) : Type 0 where
@@ -72,31 +72,33 @@ pub record Head (law : Law) (f : ℕ) (v : Bool) : Type 0 where
 -- a state is a word below 2 to the power of the count of fluents that obeys every law
 pub record IsState (fluents : ℕ) (laws : List Law) (s : ℕ) : Type 0 where
   pub below : s < 2 ^ fluents
-  pub obeys : (law : Law) → Has laws law → Obeys s law
+  pub obeys : All (Obeys s) laws
 
--- the action a may run in s: the body of one of its executability laws holds there, or it has none (a silent action)
+-- the action a is silent: no law is an executability law of it
+abbrev pub Silent : List Law → ℕ → Type 0
+Silent laws a = All (λ law. ¬ Permission a law) laws
+
+-- the action a may run in s: the body of one of its executability laws holds there, or it is silent
 abbrev pub MayRun : List Law → ℕ → ℕ → Type 0
-MayRun laws s a =
-    ((law : Law) × Has laws law × Permission a law × Holds law.body s)
-    ⊎ ((law : Law) → Has laws law → Permission a law → ⊥)
+MayRun laws s a = Any (Permits s a) laws ⊎ Silent laws a
 
 -- the literal of f with the sign v is a direct effect of a in s: the head of one of its dynamic laws whose bodies hold in s
 pub record Effect (laws : List Law) (s a f : ℕ) (v : Bool) : Type 0 where
   pub law : Law
-  pub stands : Has laws law
+  pub stands : Contains laws law
   pub takes : TakesEffect s a law
   pub head : Head law f v
 
 -- the set P of literals is closed under the static laws: it has the head of each whose body it has
 abbrev pub Closed : List Law → (ℕ → Bool → Type 0) → Type 0
 Closed laws P =
-    (law : Law) → Has laws law → law.kind ≡ Static → ((g : ℕ) (w : Bool) → Member law.body g w → P g w)
+    (law : Law) → Contains laws law → law.kind ≡ Static → ((g : ℕ) (w : Bool) → Member law.body g w → P g w)
     → P law.head.fluent law.head.sign
 
 -- the least set of literals that contains Base and is closed under the static laws
 pub data Least (laws : List Law) (Base : ℕ → Bool → Type 0) : ℕ → Bool → Type 0 where
   base : {f : ℕ} {v : Bool} → Base f v → Least laws Base f v
-  follows : {f : ℕ} {v : Bool} (law : Law) → Has laws law → law.kind ≡ Static
+  follows : {f : ℕ} {v : Bool} (law : Law) → Contains laws law → law.kind ≡ Static
       → ((g : ℕ) (w : Bool) → Member law.body g w → Least laws Base g w) → Head law f v → Least laws Base f v
 
 -- what a step from s to t by a starts from: the direct effects, and the literals common to s and t

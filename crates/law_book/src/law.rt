@@ -1,15 +1,16 @@
 // The records of a law book.
-ghost use Rattle.std.specs.Prelude.{◌≡◌, Decides};
-ghost use Rattle.law_book.specs.Laws.{Good, Unused, Obeys, Permission, TakesEffect, Fires, kind_number, static_law, dynamic_law, executability_law};
+ghost use Rattle.std.specs.Prelude.{◌≡◌, ◌↔◌, IsTrue};
+ghost use Rattle.law_book.specs.Laws.{Good, Unused, Obeys, Permission, Permits, TakesEffect, Fires, kind_number, static_law, dynamic_law, executability_law};
 
+use theory::sizes::Sizes;
 use words::literal::Literal;
 use words::literals::Literals;
 
 #[derive(Clone, Copy, PartialEq, Eq)]
 pub enum Kind {
-    Static,
-    Dynamic,
-    Executability,
+    Static = 1,
+    Dynamic = 2,
+    Executability = 3,
 }
 
 impl Kind {
@@ -17,11 +18,7 @@ impl Kind {
     pub fn number(self) -> u32
         ensures { result ≡ kind_number self }
     {
-        match self {
-            Kind::Static => 1,
-            Kind::Dynamic => 2,
-            Kind::Executability => 3,
-        }
+        self as u32
     }
 }
 
@@ -76,7 +73,7 @@ impl Law {
 
     // Whether the fields that the kind does not use have their fixed values.
     fn leaves_unused(self) -> bool
-        ensures { Decides result (Unused self) }
+        ensures { IsTrue result ↔ Unused self }
     {
         match self.kind {
             Kind::Static => self.action == 0,
@@ -86,18 +83,18 @@ impl Law {
     }
 
     // Whether the record keeps the rules of a book of these sizes.
-    pub(crate) fn is_good(self, fluents: u32, actions: u32) -> bool
-        ensures { Decides result (Good fluents actions self) }
+    pub(crate) fn is_good(self, sizes: Sizes) -> bool
+        ensures { IsTrue result ↔ Good sizes.fluents sizes.actions self }
     {
-        self.action < actions
-            && self.head.fluent < fluents
-            && self.body.is_body(fluents)
+        self.action < sizes.actions
+            && self.head.fluent < sizes.fluents
+            && self.body.is_body(sizes.fluents)
             && self.leaves_unused()
     }
 
     // Whether the word obeys the law: it is not static, its body fails there, or its head is true there.
     pub(crate) fn is_obeyed(self, word: u32) -> bool
-        ensures { Decides result (Obeys word self) }
+        ensures { IsTrue result ↔ Obeys word self }
     {
         match self.kind {
             Kind::Static => !self.body.holds_in(word) || self.head.holds_in(word),
@@ -107,21 +104,28 @@ impl Law {
 
     // Whether it is an executability law of the action.
     pub(crate) fn is_permission(self, a: u32) -> bool
-        ensures { Decides result (Permission a self) }
+        ensures { IsTrue result ↔ Permission a self }
     {
         self.kind == Kind::Executability && self.action == a
     }
 
+    // Whether it is an executability law of the action whose body holds in the word.
+    pub(crate) fn permits(self, s: u32, a: u32) -> bool
+        ensures { IsTrue result ↔ Permits s a self }
+    {
+        self.is_permission(a) && self.body.holds_in(s)
+    }
+
     // Whether it is a dynamic law of the action whose body holds in the word.
     pub(crate) fn takes_effect(self, s: u32, a: u32) -> bool
-        ensures { Decides result (TakesEffect s a self) }
+        ensures { IsTrue result ↔ TakesEffect s a self }
     {
         self.kind == Kind::Dynamic && self.action == a && self.body.holds_in(s)
     }
 
     // Whether it is a static law whose body stands in the set.
     pub(crate) fn fires(self, set: Literals) -> bool
-        ensures { Decides result (Fires set self) }
+        ensures { IsTrue result ↔ Fires set self }
     {
         self.kind == Kind::Static && self.body.within(set)
     }

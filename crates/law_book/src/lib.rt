@@ -2,10 +2,10 @@
 #![tactic(auto)]
 
 pub mod book;
+pub mod caused;
 pub mod fault;
 pub mod judge;
 pub mod law;
 pub mod list;
 pub mod open;
 pub mod queries;
-mod table;

@@ -12,8 +12,8 @@ impl LawBook {
     // The fluents that the action can turn in s, as a mask. Whatever it causes follows from its direct effects and the
     // literals of s, so no step turns another.
     pub fn turnable(&self, s: u32, a: u32) -> u32
-        ensures value { (f : ℕ) → bit result f ≡ 1 ↔ CanTurn self.now.fluents (laws_of self.now) s a f }
-        ensures covers { Covers self.now.fluents self.now.actions (laws_of self.now) s a result }
+        ensures value { (f : ℕ) → bit result f ≡ 1 ↔ CanTurn self.now.sizes.fluents (laws_of self.now) s a f }
+        ensures covers { Covers self.now.sizes.fluents self.now.sizes.actions (laws_of self.now) s a result }
     {
         self.caused(s, a, s).contrary_to(s)
     }
@@ -22,7 +22,7 @@ impl LawBook {
 impl Listing for LawBook {
     // Only words that differ from s in the fluents that can turn are tried, in ascending order.
     fn next(&self, s: u32, a: u32, least: u32) -> Option<u32> {
-        if !self.has_state(s) || a >= self.actions || !self.permits(s, a) {
+        if !self.has_state(s) || a >= self.sizes.actions || !self.permits(s, a) {
             return None;
         }
         next_turning(self, s, a, self.turnable(s, a), least)

@@ -1,71 +1,54 @@
 // The opening of a law book.
 ghost use Rattle.std.specs.Prelude.{◌≡◌};
 ghost use Rattle.refusal.specs.Order.{Ordered};
-ghost use Rattle.law_book.specs.Tables.{AllGood};
-ghost use Rattle.law_book.specs.Opening.{Opens, laws_refused, open_refused, Opened};
+ghost use Rattle.law_book.specs.Laws.{Good};
+ghost use Rattle.law_book.specs.Opening.{Opens, open_refused, Opened};
 
 use crate::book::LawBook;
 use crate::law::Law;
 use refusal::part::Part;
 use refusal::reason::Reason;
 use refusal::refusal::Refusal;
-use theory::sizes::check_sizes;
+use refusal::rule::{Rule, check_entries};
+use theory::sizes::Sizes;
+use theory::unopened::Unopened;
 
 // The most laws of a book.
 const MOST_LAWS: usize = 512;
 
-// A refused opening: why, and the table as it was handed in.
-#[derive(Drop)]
-pub struct Unopened {
-    pub refusal: Refusal,
-    pub laws: Vec<Law>,
-}
+// The rules of a law in a book of these sizes.
+impl Rule<Law> for Sizes {
+    ghost keeps = { λ z law. Good z.fluents z.actions law };
 
-// For a caller that needs only the reason: `?` passes the refusal on unchanged.
-impl From<Unopened> for Refusal {
-    ghost from_gives = { λ u r. r ≡ u.refusal };
-
-    fn from(value: Unopened) -> Refusal {
-        value.refusal
+    fn allows(&self, law: &Law) -> bool {
+        law.is_good(*self)
     }
 }
 
-// Refuses the first law that breaks a rule.
-fn check_laws(fluents: u32, actions: u32, laws: &[Law]) -> Result<(), Refusal>
-    ensures { Ordered (laws_refused fluents actions laws.now) (λ _. AllGood fluents actions laws.now) result }
+// The sizes of what opens. What does not is refused by the first reason against it: its sizes, the table's length, its first
+// bad law.
+fn check(pair: (u32, u32), laws: &[Law]) -> Result<Sizes, Refusal>
+    ensures { Ordered (open_refused pair.0 pair.1 laws.now) (λ z. Opens z.fluents z.actions laws.now × (z.fluents ≡ pair.0) × (z.actions ≡ pair.1)) result }
 {
-    for (i, law) in laws.iter().enumerate() {
-        if !law.is_good(fluents, actions) {
-            return Err(Refusal::at(Reason::BadEntry, Part::Law, i));
-        }
-    }
-    Ok(())
-}
-
-// Refuses what does not open, by the first reason against it.
-fn check(fluents: u32, actions: u32, laws: &[Law]) -> Result<(), Refusal>
-    ensures { Ordered (open_refused fluents actions laws.now) (λ _. Opens fluents actions laws.now) result }
-{
-    check_sizes(fluents, actions)?;
+    let sizes = Sizes::try_from(pair)?;
     if laws.len() > MOST_LAWS {
         return Err(Refusal::plain(Reason::TableLength));
     }
-    check_laws(fluents, actions, laws)
+    check_entries(&sizes, Part::Law, laws)?;
+    Ok(sizes)
 }
 
 impl LawBook {
     // The book of these sizes, fluents first, and laws. A refusal hands the table back.
-    pub fn open(sizes: (u32, u32), laws: Vec<Law>) -> Result<LawBook, Unopened>
+    pub fn open(sizes: (u32, u32), laws: Vec<Law>) -> Result<LawBook, Unopened<Vec<Law>>>
         ensures { Opened sizes.0 sizes.1 laws result }
     {
-        let (fluents, actions) = sizes;
-        match check(fluents, actions, laws.as_slice()) {
-            Ok(()) => Ok(LawBook {
-                fluents,
-                actions,
-                laws,
+        match check(sizes, &laws) {
+            Ok(sizes) => Ok(LawBook { sizes, laws }),
+            Err(refusal) => Err(Unopened {
+                refusal,
+                tables: laws,
             }),
-            Err(refusal) => Err(Unopened { refusal, laws }),
         }
     }
 }

@@ -1,15 +1,13 @@
-// What a law book tells of itself: its laws, what a word breaks, what a step causes, and why it is none.
-ghost use Rattle.std.specs.Prelude.{◌≡◌, ℕ, Bool, ◌↔◌, Decides};
-ghost use Rattle.words.specs.Words.{Member};
-ghost use Rattle.law_book.specs.Laws.{Caused, IsState, MayRun};
+// What a law book tells of itself: its laws, what a word breaks, and why a step is none.
+ghost use Rattle.std.specs.Prelude.{◌≡◌, ◌↔◌, IsTrue};
+ghost use Rattle.law_book.specs.Laws.{IsState, MayRun, Silent};
 ghost use Rattle.law_book.specs.Books.{laws_of, Breaks};
 ghost use Rattle.law_book.specs.Faults.{Explained};
-ghost use Rattle.law_book.specs.Leastness.{CausedIsLeast};
+ghost use Rattle.law_book.specs.Tables.{Obeyed};
 
 use crate::book::LawBook;
 use crate::fault::Fault;
 use crate::law::Law;
-use crate::table;
 use words::literals::Literals;
 use words::word::is_below;
 
@@ -23,29 +21,22 @@ impl LawBook {
 
     // Whether the book has a law at this place, and the word breaks it.
     pub fn breaks(&self, word: u32, place: usize) -> bool
-        ensures { Decides result (Breaks (laws_of self.now) word place) }
+        ensures { IsTrue result ↔ Breaks (laws_of self.now) word place }
     {
-        let laws = self.laws();
-        place < laws.len() && !laws[place].is_obeyed(word)
-    }
-
-    // The literals caused between s and t by the action: the least set that contains its direct effects and the
-    // literals common to s and t and is closed under the static laws.
-    pub fn caused(&self, s: u32, a: u32, t: u32) -> Literals
-        ensures value { (f : ℕ) (v : Bool) → Member result f v ↔ Caused self.now.fluents (laws_of self.now) s a t f v }
-        ensures least { CausedIsLeast }
-    {
-        table::caused(self.fluents, self.laws(), s, a, t)
+        match self.laws.get(place) {
+            Some(law) => !law.is_obeyed(word),
+            None => false,
+        }
     }
 
     // Why (s, a, t) is no step, or nothing where it is one.
     pub fn fault(&self, s: u32, a: u32, t: u32) -> Option<Fault>
-        ensures { Explained self.now.fluents self.now.actions (laws_of self.now) s a t result }
+        ensures { Explained self.now.sizes.fluents self.now.sizes.actions (laws_of self.now) s a t result }
     {
         if !self.has_state(s) {
             return Some(Fault::FromNotAState);
         }
-        if a >= self.actions {
+        if a >= self.sizes.actions {
             return Some(Fault::NoSuchAction);
         }
         if !self.permits(s, a) {
@@ -55,7 +46,7 @@ impl LawBook {
             return Some(Fault::ToNotAState);
         }
         let caused = self.caused(s, a, t);
-        let own = Literals::common(self.fluents, t, t);
+        let own = Literals::common(self.sizes.fluents, t, t);
         if !caused.within(own) {
             return Some(Fault::Contrary);
         }
@@ -67,15 +58,29 @@ impl LawBook {
 
     // Whether the word is a state.
     pub(crate) fn has_state(&self, s: u32) -> bool
-        ensures { Decides result (IsState self.now.fluents (laws_of self.now) s) }
+        ensures { IsTrue result ↔ IsState self.now.sizes.fluents (laws_of self.now) s }
     {
-        is_below(s, self.fluents) && table::obeyed(self.laws(), s)
+        is_below(s, self.sizes.fluents) && self.is_obeyed(s)
     }
 
-    // Whether the action may run in s.
-    pub(crate) fn permits(&self, s: u32, a: u32) -> bool
-        ensures { Decides result (MayRun (laws_of self.now) s a) }
+    // Whether the word obeys every law.
+    fn is_obeyed(&self, word: u32) -> bool
+        ensures { IsTrue result ↔ Obeyed (laws_of self.now) word }
     {
-        table::may_run(self.laws(), s, a)
+        self.laws.iter().all(|law| law.is_obeyed(word))
+    }
+
+    // Whether the action may run in s: an executability law lets it, or it is silent.
+    pub(crate) fn permits(&self, s: u32, a: u32) -> bool
+        ensures { IsTrue result ↔ MayRun (laws_of self.now) s a }
+    {
+        self.laws.iter().any(|law| law.permits(s, a)) || self.is_silent(a)
+    }
+
+    // Whether the action is silent: it has no executability law.
+    fn is_silent(&self, a: u32) -> bool
+        ensures { IsTrue result ↔ Silent (laws_of self.now) a }
+    {
+        !self.laws.iter().any(|law| law.is_permission(a))
     }
 }

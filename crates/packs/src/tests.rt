@@ -18,13 +18,19 @@ use theory::step::Step;
 
 // The book of the laws, which must open.
 fn opened(heap: Global, sizes: (u32, u32), laws: &[Law]) -> Result<LawBook, Fail> {
-    match LawBook::open(sizes, laws.to_vec(heap)?) {
-        Ok(book) => Ok(book),
-        Err(_) => Err(Fail::new("the book does not open")),
-    }
+    LawBook::open(sizes, laws.to_vec(heap)?).map_err(|_| Fail::new("the book does not open"))
 }
 
-// The number, the part's number and the place of the refusal, and how many laws came back.
+// The number of the refusal, that of its part, and the place.
+fn numbers(refusal: Refusal) -> (u32, u32, usize) {
+    (
+        refusal.reason.number(),
+        refusal.part.number(),
+        refusal.place,
+    )
+}
+
+// The numbers of the refusal, and how many laws came back.
 fn refused(
     heap: Global,
     sizes: (u32, u32),
@@ -32,12 +38,10 @@ fn refused(
 ) -> Result<(u32, u32, usize, usize), Fail> {
     match LawBook::open(sizes, laws.to_vec(heap)?) {
         Ok(_) => Err(Fail::new("the book opens")),
-        Err(no) => Ok((
-            no.refusal.reason.number(),
-            no.refusal.part.number(),
-            no.refusal.place,
-            no.laws.len(),
-        )),
+        Err(no) => {
+            let (number, part, place) = numbers(no.refusal);
+            Ok((number, part, place, no.tables.len()))
+        }
     }
 }
 
@@ -147,11 +151,11 @@ fn recorded_runs(rt: HostRuntime) -> Result<(), Fail> {
     let Err(no) = check_record(&book, 7, &early) else {
         return Err(Fail::new("a release from 6 passes"));
     };
-    assert_eq!(rt; (no.reason.number(), no.part.number(), no.place), (5, 7, 1));
+    assert_eq!(rt; numbers(no), (5, 7, 1));
     let Err(no) = check_record(&book, 3, &early) else {
         return Err(Fail::new("3 is no state"));
     };
-    assert_eq!(rt; (no.reason.number(), no.part.number(), no.place), (4, 0, 0));
+    assert_eq!(rt; numbers(no), (4, 0, 0));
     Ok(())
 }
 

@@ -1,19 +1,21 @@
 // What the place of a refusal counts.
-ghost use Rattle.std.specs.Prelude.{◌≡◌};
+ghost use Rattle.std.specs.Prelude.{◌≡◌, Some};
 ghost use Rattle.refusal.specs.Numbers.{part_number};
 ghost use Rattle.refusal.specs.Sentences.{word_of};
 
-// One case for each part, in the order of their numbers.
+use std::fmt;
+
+// One case for each part, with its number.
 #[derive(Clone, Copy, PartialEq, Eq, Debug)]
 pub enum Part {
-    NoPart,
-    Law,
-    State,
-    Link,
-    Ban,
-    Formula,
-    Node,
-    Step,
+    NoPart = 0,
+    Law = 1,
+    State = 2,
+    Link = 3,
+    Ban = 4,
+    Formula = 5,
+    Node = 6,
+    Step = 7,
 }
 
 impl Part {
@@ -21,23 +23,16 @@ impl Part {
     pub fn number(self) -> u32
         ensures { result ≡ part_number self }
     {
-        match self {
-            Part::NoPart => 0,
-            Part::Law => 1,
-            Part::State => 2,
-            Part::Link => 3,
-            Part::Ban => 4,
-            Part::Formula => 5,
-            Part::Node => 6,
-            Part::Step => 7,
-        }
+        self as u32
     }
+}
 
-    // The part in a word, for a person.
-    pub fn word(self) -> &'static str
-        ensures { result.now ≡ word_of self }
-    {
-        match self {
+// The part in a word, for a person.
+impl fmt::Display for Part {
+    ghost output = { λ part. Some (word_of part) };
+
+    fn fmt<W: fmt::Write>(&self, f: &mut fmt::Formatter<W>) -> fmt::Result {
+        f.write_str(match self {
             Part::NoPart => "no part",
             Part::Law => "law",
             Part::State => "state",
@@ -46,6 +41,6 @@ impl Part {
             Part::Formula => "formula",
             Part::Node => "node",
             Part::Step => "step",
-        }
+        })
     }
 }

@@ -1,30 +1,32 @@
 // Why a call refuses.
-ghost use Rattle.std.specs.Prelude.{◌≡◌};
+ghost use Rattle.std.specs.Prelude.{◌≡◌, Some};
 ghost use Rattle.refusal.specs.Numbers.{reason_number};
 ghost use Rattle.refusal.specs.Sentences.{sentence_of};
 
-// One case for each number of the table of refusals, in its order.
+use std::fmt;
+
+// One case for each reason of the table of refusals, with its number.
 #[derive(Clone, Copy, PartialEq, Eq, Debug)]
 pub enum Reason {
-    VacantPlace,
-    UnstartedRun,
-    WrongSizes,
-    NotAState,
-    NotAStep,
-    RecordFull,
-    NothingToWithdraw,
-    SearchTooLarge,
-    WorkingTableShort,
-    NoWay,
-    NoTrace,
-    OutputShort,
-    BadEntry,
-    TableLength,
-    TornClaim,
-    IdleRound,
-    NoChoiceLeft,
-    Strayed,
-    LeftOver,
+    VacantPlace = 1,
+    UnstartedRun = 2,
+    WrongSizes = 3,
+    NotAState = 4,
+    NotAStep = 5,
+    RecordFull = 6,
+    NothingToWithdraw = 7,
+    SearchTooLarge = 8,
+    WorkingTableShort = 9,
+    NoWay = 10,
+    NoTrace = 11,
+    OutputShort = 12,
+    BadEntry = 13,
+    TableLength = 14,
+    TornClaim = 15,
+    IdleRound = 16,
+    NoChoiceLeft = 17,
+    Strayed = 18,
+    LeftOver = 19,
 }
 
 impl Reason {
@@ -32,34 +34,16 @@ impl Reason {
     pub fn number(self) -> u32
         ensures { result ≡ reason_number self }
     {
-        match self {
-            Reason::VacantPlace => 1,
-            Reason::UnstartedRun => 2,
-            Reason::WrongSizes => 3,
-            Reason::NotAState => 4,
-            Reason::NotAStep => 5,
-            Reason::RecordFull => 6,
-            Reason::NothingToWithdraw => 7,
-            Reason::SearchTooLarge => 8,
-            Reason::WorkingTableShort => 9,
-            Reason::NoWay => 10,
-            Reason::NoTrace => 11,
-            Reason::OutputShort => 12,
-            Reason::BadEntry => 13,
-            Reason::TableLength => 14,
-            Reason::TornClaim => 15,
-            Reason::IdleRound => 16,
-            Reason::NoChoiceLeft => 17,
-            Reason::Strayed => 18,
-            Reason::LeftOver => 19,
-        }
+        self as u32
     }
+}
 
-    // The reason in words, for a person.
-    pub fn sentence(self) -> &'static str
-        ensures { result.now ≡ sentence_of self }
-    {
-        match self {
+// The reason in words, for a person.
+impl fmt::Display for Reason {
+    ghost output = { λ reason. Some (sentence_of reason) };
+
+    fn fmt<W: fmt::Write>(&self, f: &mut fmt::Formatter<W>) -> fmt::Result {
+        f.write_str(match self {
             Reason::VacantPlace => "no program has been admitted to this place",
             Reason::UnstartedRun => "the run has not been started",
             Reason::WrongSizes => {
@@ -81,6 +65,6 @@ impl Reason {
             Reason::NoChoiceLeft => "the claim has no choice left for this node",
             Reason::Strayed => "the run strays from the program at this node",
             Reason::LeftOver => "the program has ended, but steps or choices are left over",
-        }
+        })
     }
 }

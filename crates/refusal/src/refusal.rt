@@ -39,17 +39,15 @@ impl fmt::Display for Refusal {
 
     fn fmt<W: fmt::Write>(&self, f: &mut fmt::Formatter<W>) -> fmt::Result {
         let number = self.reason.number();
-        let sentence = self.reason.sentence();
-        let part = self.part.number();
-        if part == 0 {
-            write!(f, "refused by {number}: {sentence}")
-        } else {
-            let word = self.part.word();
-            let place = self.place;
-            write!(
+        match self.part {
+            Part::NoPart => write!(f, "refused by {number}: {}", self.reason),
+            part => write!(
                 f,
-                "refused by {number} at {word} {place} (part {part}): {sentence}"
-            )
+                "refused by {number} at {part} {} (part {}): {}",
+                self.place,
+                part.number(),
+                self.reason
+            ),
         }
     }
 }

@@ -1,6 +1,6 @@
 // Tables whose every entry keeps a rule.
-ghost use Rattle.std.specs.Prelude.{Decides};
-ghost use Rattle.refusal.specs.Entries.{AllKeep, entries_refused};
+ghost use Rattle.std.specs.Prelude.{◌↔◌, IsTrue, IfSome, IfNone, All};
+ghost use Rattle.refusal.specs.Entries.{FirstBad, entries_refused};
 ghost use Rattle.refusal.specs.Order.{Ordered};
 
 use crate::part::Part;
@@ -14,17 +14,23 @@ pub trait Rule<E> {
 
     // Whether the entry keeps the rule.
     fn allows(&self, entry: &E) -> bool
-        ensures { Decides result (keeps self.now entry.now) };
+        ensures { IsTrue result ↔ keeps self.now entry.now };
+}
+
+// The place of the first entry that breaks the rule.
+fn first_bad<E, R: Rule<E>>(rule: &R, entries: &[E]) -> Option<usize>
+    ensures none { IfNone result (All (R.Rule.keeps rule.now) entries.now) }
+    ensures some { IfSome result (FirstBad (R.Rule.keeps rule.now) entries.now) }
+{
+    entries.iter().position(|entry| !rule.allows(entry))
 }
 
 // Refuses the first entry that breaks the rule, by the part that the table is.
 pub fn check_entries<E, R: Rule<E>>(rule: &R, part: Part, entries: &[E]) -> Result<(), Refusal>
-    ensures { Ordered (entries_refused part (R.Rule.keeps rule.now) entries.now) (λ _. AllKeep (R.Rule.keeps rule.now) entries.now) result }
+    ensures { Ordered (entries_refused part (R.Rule.keeps rule.now) entries.now) (λ _. All (R.Rule.keeps rule.now) entries.now) result }
 {
-    for (i, entry) in entries.iter().enumerate() {
-        if !rule.allows(entry) {
-            return Err(Refusal::at(Reason::BadEntry, part, i));
-        }
+    match first_bad(rule, entries) {
+        Some(place) => Err(Refusal::at(Reason::BadEntry, part, place)),
+        None => Ok(()),
     }
-    Ok(())
 }

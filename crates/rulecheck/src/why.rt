@@ -48,8 +48,7 @@ fn show_fault(rt: &HostRuntime, book: &LawBook, s: u32, step: Step) -> io::Resul
     let Some(fault) = book.fault(s, step.action, step.to) else {
         return Ok(());
     };
-    let sentence = fault.sentence();
-    println!(rt; "  because {sentence}")?;
+    println!(rt; "  because {fault}")?;
     match fault {
         Fault::FromNotAState => show_broken(rt, book, s),
         Fault::ToNotAState => show_broken(rt, book, step.to),

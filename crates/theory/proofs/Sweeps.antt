@@ -1,42 +1,47 @@
--- A sweep upwards over the words that differ from s within a mask, and one over all results.
-use Rattle.std.proofs.Common.{◌≡◌, ℕ, ◌+◌, ◌^◌, ◌≤◌, Bool, false, List, [], ◌∷◌, ◌++◌, Some, Decides, sym, subst, append_assoc, append-nil, arith, pow_mono}
-use Rattle.std.proofs.lemmas.Bool.Decides.{not_from_Decides}
+-- A sweep upwards over all results.
+use Rattle.std.proofs.Common.{◌≡◌, ℕ, ◌+◌, ◌^◌, ◌<◌, ◌≤◌, List, [], ◌∷◌, Some, None, Option, refl, sym, subst, ◌∙◌, arith, pow_mono}
+use Rattle.std.specs.Iterator.{Yields, DrainsIf}
+use Rattle.words.specs.declared.ascending.Ascending.{Ascending}
+use Rattle.words.specs.Ascending.{Above, Ascends}
 use Rattle.words.specs.Smallest.{SmallestFrom}
-use Rattle.words.specs.Words.{Turned}
-use Rattle.words.proofs.Smallest.{NoneBetween, none_join, none_more}
+use Rattle.words.proofs.Upwards.{Climbs, climbs}
 use Rattle.theory.specs.Meaning.{Meaning, Ranged}
 use Rattle.theory.specs.Results.{Listed, none, first}
-use Rattle.theory.specs.Turning.{Turning}
 
-module _ (m : Meaning) (s a mask least from t : ℕ) (before : NoneBetween least from (Turning m s a mask)) (passed : NoneBetween from t (Turned s mask)) where
-  -- none among the words that were passed over
-  pub sweep_to : NoneBetween least t (Turning m s a mask)
-  sweep_to = none_join (Turning m s a mask) least from before t (λ u l h x. passed u l h x.turned)
+module _ (P : ℕ → Type 0) (word : (t : ℕ) → P t → t < 2 ^ 32) where
+  -- all from a number on, and none from no number
+  AllFrom : Option ℕ → List ℕ → Type 0
+  AllFrom None xs = xs ≡ []
+  AllFrom (Some n) xs = Listed P n xs
 
-  -- nor at t, if the theory says that it is no step
-  pub sweep_past : (r : Bool) → Decides r (m.Step s a t) → r ≡ false → NoneBetween least (t + 1) (Turning m s a mask)
-  sweep_past r d e = none_more (Turning m s a mask) least t sweep_to (λ x. not_from_Decides r d e x.step)
+  all_none : (from next : Option ℕ) → Climbs P from None next → AllFrom from []
+  unfolding AllFrom
+  all_none None next h = refl
+  all_none (Some n) next h = none h.0
 
--- where all words are swept, or no turned word is left, there is none at all
-module _ (m : Meaning) (s a mask least from : ℕ) (before : NoneBetween least from (Turning m s a mask)) where
-  pub sweep_all : 2 ^ 32 ≤ from → (t : ℕ) → least ≤ t → Turning m s a mask t → ⊥
-  sweep_all h t l x = before t l (omega (arith, x.turned.word)) x
+  all_more : (from next : Option ℕ) (t : ℕ) (xs : List ℕ) → Climbs P from (Some t) next → AllFrom next xs → AllFrom from (t ∷ xs)
+  unfolding AllFrom
+  all_more None next t xs h k = absurd (cc)
+  all_more (Some n) next t xs h k = first h.0 (go next h.1 k)
+    where
+      go : (next : Option ℕ) → Above t next → AllFrom next xs → Listed P (t + 1) xs
+      go None a k = subst (Listed P (t + 1)) (sym k) (none (λ u l x. omega (arith, word u x)))
+      go (Some m) a k = subst (λ i. Listed P i xs) a.0 k
 
-  pub sweep_end : ((u : ℕ) → from ≤ u → Turned s mask u → ⊥) → (t : ℕ) → least ≤ t → Turning m s a mask t → ⊥
-  sweep_end h t l x = none_join (Turning m s a mask) least from before (t + 1) (λ u k _ y. h u k y.turned) t l (omega arith) x
+  module _ {F : Type 0} {answers : F → ℕ → Option ℕ → Type 0} (q : F) (smallest : (n : ℕ) (o : Option ℕ) → answers q n o → SmallestFrom n P o) where
+    all_run : (xs : List ℕ) (s t u : Ascending F) → s.query ≡ q → Yields (Ascends answers) s xs t → Ascends answers t None u → AllFrom s.from xs
+    all_run [] s t u e y h = all_none s.from u.from (climbs P q smallest s None u e (subst (λ i. Ascends answers i None u) (sym y) h))
+    all_run (x ∷ xs) s t u e y h =
+        all_more s.from y.0.from x xs (climbs P q smallest s (Some x) y.0 e y.1) (all_run xs y.0 t u (y.1.query ∙ e) y.2 h)
 
--- xs are the numbers below the least that have the property P: with those that are not below it, they are all
-abbrev pub SoFar : (ℕ → Type 0) → List ℕ → ℕ → Type 0
-SoFar P xs least = (ys : List ℕ) → Listed P least ys → Listed P 0 (xs ++ ys)
+  -- the items that come up to the end
+  pub listed_from_drains : {F W : Type 0} {answers : F → ℕ → Option ℕ → Type 0} {q : F} {n : ℕ} (s : Ascending F) (xs : List ℕ)
+      → DrainsIf (Ascends answers) W s xs → W → s.query ≡ q → s.from ≡ Some n → ((n : ℕ) (o : Option ℕ) → answers q n o → SmallestFrom n P o) → Listed P n xs
+  unfolding AllFrom
+  listed_from_drains {q} s xs h w e p smallest = let l = h.2 w in subst (λ i. AllFrom i xs) p (all_run q smallest xs s h.0 l.0 e h.1 l.1)
 
-pub so_far_more : (P : ℕ → Type 0) (xs : List ℕ) (least t : ℕ) → SoFar P xs least → SmallestFrom least P (Some t) → SoFar P (xs ++ t ∷ []) (t + 1)
-so_far_more P xs least t h e ys k = subst (Listed P 0) (sym (append_assoc xs (t ∷ []) ys)) (h (t ∷ ys) (first e k))
-
-pub so_far_all : (P : ℕ → Type 0) (xs : List ℕ) (least : ℕ) → SoFar P xs least → ((t : ℕ) → least ≤ t → P t → ⊥) → Listed P 0 xs
-so_far_all P xs least h n = subst (Listed P 0) (append-nil xs) (h [] (none n))
-
--- no step ends past the words
-pub words_end : (m : Meaning) → Ranged m → (s a t : ℕ) → 2 ^ 32 ≤ t → m.Step s a t → ⊥
-words_end m r s a t l h =
+-- each step ends in a word
+pub step_word : (m : Meaning) → Ranged m → (s a t : ℕ) → m.Step s a t → t < 2 ^ 32
+step_word m r s a t h =
     let small : 2 ^ m.fluents ≤ 2 ^ 32 = pow_mono r.sizes.1 in
     omega (arith, r.state_below t (r.step_to s a t h))

@@ -1,6 +1,6 @@
 -- What an action theory means.
 use Rattle.std.specs.Prelude.{◌≡◌, ℕ, ◌^◌, ◌<◌, ◌↔◌}
-use Rattle.theory.specs.Sizes.{Sizes}
+use Rattle.theory.specs.Sizes.{InRange}
 
 -- the count of fluents, the count of actions, the set of states, and the set of steps (s, a, t)
 pub record Meaning : Type 1 where
@@ -11,7 +11,7 @@ pub record Meaning : Type 1 where
 
 -- the ranges of every theory: its sizes, a state is a word of its fluents, and a step leads from a state by an action to a state
 pub record Ranged (m : Meaning) : Type 0 where
-  pub sizes : Sizes m.fluents m.actions
+  pub sizes : InRange m.fluents m.actions
   pub state_below : (s : ℕ) → m.State s → s < 2 ^ m.fluents
   pub step_from : (s a t : ℕ) → m.Step s a t → m.State s
   pub step_action : (s a t : ℕ) → m.Step s a t → a < m.actions

@@ -1,5 +1,5 @@
 // The judging interface of an action theory.
-ghost use Rattle.std.specs.Prelude.{◌≡◌, Decides};
+ghost use Rattle.std.specs.Prelude.{◌≡◌, ◌↔◌, IsTrue};
 ghost use Rattle.theory.specs.Meaning.{Meaning, Ranged};
 
 // A theory that can be asked for its sizes, its states and its steps. Every query takes any numbers.
@@ -14,11 +14,11 @@ pub trait Judging {
 
     // Whether the word is a state.
     fn is_state(&self, s: u32) -> bool
-        ensures { Decides result ((meaning self.now).State s) };
+        ensures { IsTrue result ↔ (meaning self.now).State s };
 
     // Whether the action leads from s to t.
     fn is_step(&self, s: u32, a: u32, t: u32) -> bool
-        ensures { Decides result ((meaning self.now).Step s a t) };
+        ensures { IsTrue result ↔ (meaning self.now).Step s a t };
 
     // the meaning keeps the ranges of every theory
     ghost ranged: { (x : Self) → Ranged (meaning x) };

@@ -1,16 +1,30 @@
 // The counts of fluents and of actions that a theory may have.
+ghost use Rattle.std.specs.Prelude.{◌≡◌};
 ghost use Rattle.refusal.specs.Order.{Ordered};
-ghost use Rattle.theory.specs.Sizes.{Sizes, sizes_refused};
+ghost use Rattle.theory.specs.Sizes.{InRange, sizes_refused};
 
 use refusal::reason::Reason;
 use refusal::refusal::Refusal;
 
-// Refuses sizes that are out of range.
-pub fn check_sizes(fluents: u32, actions: u32) -> Result<(), Refusal>
-    ensures { Ordered (sizes_refused fluents actions) (λ _. Sizes fluents actions) result }
-{
-    if fluents < 1 || fluents > 32 || actions < 1 || actions > 64 {
-        return Err(Refusal::plain(Reason::WrongSizes));
+// 1 to 32 fluents and 1 to 64 actions.
+#[derive(Clone, Copy, PartialEq, Eq, Debug)]
+pub struct Sizes {
+    pub fluents: u32,
+    pub actions: u32,
+    ghost in_range: { InRange fluents actions },
+}
+
+// From the pair of both counts, fluents first. Counts that are out of range are refused.
+impl TryFrom<(u32, u32)> for Sizes {
+    type Error = Refusal;
+
+    ghost try_from_gives = { λ pair r. Ordered (sizes_refused pair.0 pair.1) (λ z. (z.fluents ≡ pair.0) × (z.actions ≡ pair.1)) r };
+
+    fn try_from(pair: (u32, u32)) -> Result<Sizes, Refusal> {
+        let (fluents, actions) = pair;
+        if fluents < 1 || fluents > 32 || actions < 1 || actions > 64 {
+            return Err(Refusal::plain(Reason::WrongSizes));
+        }
+        Ok(Sizes { fluents, actions })
     }
-    Ok(())
 }

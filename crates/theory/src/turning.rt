@@ -3,6 +3,7 @@ ghost use Rattle.words.specs.Smallest.{SmallestFrom};
 ghost use Rattle.theory.specs.Turning.{Turning};
 
 use crate::judging::Judging;
+use words::ascending::Ascending;
 use words::turned::next_turned;
 
 // The smallest t, not below the least word, for which (s, a, t) is a step that turns no fluent but those of the mask.
@@ -11,12 +12,5 @@ use words::turned::next_turned;
 pub fn next_turning<T: Judging>(theory: &T, s: u32, a: u32, mask: u32, least: u32) -> Option<u32>
     ensures { SmallestFrom least (Turning (T.Judging.meaning theory.now) s a mask) result }
 {
-    let mut from = least;
-    while let Some(t) = next_turned(s, mask, from) {
-        if theory.is_step(s, a, t) {
-            return Some(t);
-        }
-        from = t.checked_add(1)?;
-    }
-    None
+    Ascending::new(move |from| next_turned(s, mask, from), least).find(|t| theory.is_step(s, a, *t))
 }

@@ -15,4 +15,4 @@ links_of g = vec_items g.links
 
 -- what the graph means
 abbrev pub graph_meaning : TransitionGraph → Meaning
-graph_meaning g = meaning_of g.fluents g.actions (states_of g) (links_of g)
+graph_meaning g = meaning_of g.sizes.fluents g.sizes.actions (states_of g) (links_of g)

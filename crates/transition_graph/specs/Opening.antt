@@ -8,7 +8,7 @@ use Rattle.refusal.specs.Order.{Ground, by, First, NoneFits}
 use Rattle.refusal.specs.Refusals.{plain}
 use Rattle.theory.specs.declared.unopened.Unopened.{Unopened}
 use Rattle.theory.specs.Meaning.{Same}
-use Rattle.theory.specs.Sizes.{Sizes, sizes_refused}
+use Rattle.theory.specs.Sizes.{InRange, sizes_refused}
 use Rattle.transition_graph.specs.declared.graph.TransitionGraph.{TransitionGraph}
 use Rattle.transition_graph.specs.declared.link.Link.{Link}
 use Rattle.transition_graph.specs.Graphs.{states_of, links_of, graph_meaning}
@@ -22,7 +22,7 @@ pub record Lengths (states : List ℕ) (links : List Link) : Type 0 where
 
 -- the sizes and tables that open
 pub record Opens (fluents actions : ℕ) (states : List ℕ) (links : List Link) : Type 0 where
-  pub sized : Sizes fluents actions
+  pub sized : InRange fluents actions
   pub lengths : Lengths states links
   pub good : GoodTables fluents actions states links
 

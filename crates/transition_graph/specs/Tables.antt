@@ -1,7 +1,5 @@
 -- The tables of a transition graph, and their meaning.
-use Rattle.std.specs.Prelude.{ℕ, ◌^◌, ◌<◌, List}
-use Rattle.std.specs.List.{ContainsAt as Has}
-use Rattle.refusal.specs.Entries.{AllKeep}
+use Rattle.std.specs.Prelude.{ℕ, ◌^◌, ◌<◌, Bool, ◌&&◌, ◌==◌, nat_le, List, map, filter, All, Contains}
 use Rattle.theory.specs.Meaning.{Meaning}
 use Rattle.transition_graph.specs.declared.link.Link.{Link}
 
@@ -12,23 +10,31 @@ GoodState fluents s = s < 2 ^ fluents
 -- an entry of the link table has one of the actions, and both its ends stand in the state table
 pub record GoodLink (actions : ℕ) (states : List ℕ) (link : Link) : Type 0 where
   pub action : link.action < actions
-  pub from : Has states link.from
-  pub to : Has states link.to
+  pub from : Contains states link.from
+  pub to : Contains states link.to
 
 -- every entry of both tables keeps its rule
 pub record GoodTables (fluents actions : ℕ) (states : List ℕ) (links : List Link) : Type 0 where
-  pub all_states : AllKeep (GoodState fluents) states
-  pub all_links : AllKeep (GoodLink actions states) links
+  pub all_states : All (GoodState fluents) states
+  pub all_links : All (GoodLink actions states) links
 
 -- the link from s by a to t
 abbrev pub link_of : ℕ → ℕ → ℕ → Link
 link_of s a t = record { from = s; action = a; to = t }
+
+-- whether the link leads from s by a to a word that is not below the least
+abbrev pub is_leading : ℕ → ℕ → ℕ → Link → Bool
+is_leading s a least link = link.from == s && (link.action == a && nat_le least link.to)
+
+-- the words, not below the least, to which the links lead from s by a, in the order of the links
+abbrev pub ends_of : ℕ → ℕ → ℕ → List Link → List ℕ
+ends_of s a least links = map (λ link. link.to) (filter (is_leading s a least) links)
 
 -- the meaning of the tables: the states are the entries of the one, the steps the links of the other
 abbrev pub meaning_of : ℕ → ℕ → List ℕ → List Link → Meaning
 meaning_of fluents actions states links = record {
   fluents = fluents;
   actions = actions;
-  State = Has states;
-  Step = λ s a t. Has links (link_of s a t);
+  State = Contains states;
+  Step = λ s a t. Contains links (link_of s a t);
 }

@@ -3,23 +3,27 @@ ghost use Rattle.transition_graph.specs.Graphs.{graph_meaning, states_of, links_
 ghost use Rattle.transition_graph.specs.Listed.{ranged_from};
 
 use crate::graph::TransitionGraph;
-use crate::table;
+use crate::link::Link;
 use theory::judging::Judging;
 
 impl Judging for TransitionGraph {
     ghost meaning = { λ g. graph_meaning g };
 
-    ghost ranged = { λ g. ranged_from g.fluents g.actions (states_of g) (links_of g) g.good g.sized };
+    ghost ranged = { λ g. ranged_from g.sizes.fluents g.sizes.actions (states_of g) (links_of g) g.sizes.in_range g.good };
 
     fn sizes(&self) -> (u32, u32) {
-        (self.fluents, self.actions)
+        (self.sizes.fluents, self.sizes.actions)
     }
 
     fn is_state(&self, s: u32) -> bool {
-        table::lists(self.states(), s)
+        self.states.contains(&s)
     }
 
     fn is_step(&self, s: u32, a: u32, t: u32) -> bool {
-        table::leads(self.links(), s, a, t)
+        self.links.contains(&Link {
+            from: s,
+            action: a,
+            to: t,
+        })
     }
 }

@@ -7,4 +7,3 @@ pub mod link;
 pub mod list;
 pub mod open;
 pub mod queries;
-mod table;

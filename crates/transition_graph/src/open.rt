@@ -1,16 +1,16 @@
 // The opening of a transition graph.
+ghost use Rattle.std.specs.Prelude.{◌≡◌};
 ghost use Rattle.refusal.specs.Order.{Ordered};
-ghost use Rattle.transition_graph.specs.Opening.{Opens, tables_refused, open_refused, Opened};
-ghost use Rattle.transition_graph.specs.Tables.{GoodState, GoodLink, GoodTables};
+ghost use Rattle.transition_graph.specs.Opening.{Opens, open_refused, Opened};
+ghost use Rattle.transition_graph.specs.Tables.{GoodState, GoodLink};
 
 use crate::graph::TransitionGraph;
 use crate::link::Link;
-use crate::table;
 use refusal::part::Part;
 use refusal::reason::Reason;
 use refusal::refusal::Refusal;
 use refusal::rule::{Rule, check_entries};
-use theory::sizes::check_sizes;
+use theory::sizes::Sizes;
 use theory::unopened::Unopened;
 use words::word::is_below;
 
@@ -19,54 +19,49 @@ const MOST_STATES: usize = 1024;
 
 const MOST_LINKS: usize = 4096;
 
-// The rule of a state in a graph with so many fluents.
+// The rule of a state in a graph of these sizes.
 #[derive(Clone, Copy)]
 struct StateRule {
-    fluents: u32,
+    sizes: Sizes,
 }
 
 impl Rule<u32> for StateRule {
-    ghost keeps = { λ r s. GoodState r.fluents s };
+    ghost keeps = { λ r s. GoodState r.sizes.fluents s };
 
     fn allows(&self, state: &u32) -> bool {
-        is_below(*state, self.fluents)
+        is_below(*state, self.sizes.fluents)
     }
 }
 
-// The rule of a link in a graph with so many actions and these states.
+// The rule of a link in a graph of these sizes, with these states.
 #[derive(Clone, Copy)]
 struct LinkRule<'a> {
-    actions: u32,
+    sizes: Sizes,
     states: &'a [u32],
 }
 
 impl Rule<Link> for LinkRule<'_> {
-    ghost keeps = { λ r link. GoodLink r.actions r.states.now link };
+    ghost keeps = { λ r link. GoodLink r.sizes.actions r.states.now link };
 
     fn allows(&self, link: &Link) -> bool {
-        link.action < self.actions
-            && table::lists(self.states, link.from)
-            && table::lists(self.states, link.to)
+        link.action < self.sizes.actions
+            && self.states.contains(&link.from)
+            && self.states.contains(&link.to)
     }
 }
 
-// Refuses the first state that breaks its rule, then the first link.
-fn check_tables(fluents: u32, actions: u32, states: &[u32], links: &[Link]) -> Result<(), Refusal>
-    ensures { Ordered (tables_refused fluents actions states.now links.now) (λ _. GoodTables fluents actions states.now links.now) result }
+// The sizes of what opens. What does not is refused by the first reason against it: its sizes, a table's length, its first
+// bad state, its first bad link.
+fn check(pair: (u32, u32), states: &[u32], links: &[Link]) -> Result<Sizes, Refusal>
+    ensures { Ordered (open_refused pair.0 pair.1 states.now links.now) (λ z. Opens z.fluents z.actions states.now links.now × (z.fluents ≡ pair.0) × (z.actions ≡ pair.1)) result }
 {
-    check_entries(&StateRule { fluents }, Part::State, states)?;
-    check_entries(&LinkRule { actions, states }, Part::Link, links)
-}
-
-// Refuses what does not open, by the first reason against it.
-fn check(fluents: u32, actions: u32, states: &[u32], links: &[Link]) -> Result<(), Refusal>
-    ensures { Ordered (open_refused fluents actions states.now links.now) (λ _. Opens fluents actions states.now links.now) result }
-{
-    check_sizes(fluents, actions)?;
+    let sizes = Sizes::try_from(pair)?;
     if states.is_empty() || states.len() > MOST_STATES || links.len() > MOST_LINKS {
         return Err(Refusal::plain(Reason::TableLength));
     }
-    check_tables(fluents, actions, states, links)
+    check_entries(&StateRule { sizes }, Part::State, states)?;
+    check_entries(&LinkRule { sizes, states }, Part::Link, links)?;
+    Ok(sizes)
 }
 
 impl TransitionGraph {
@@ -78,11 +73,9 @@ impl TransitionGraph {
     ) -> Result<TransitionGraph, Unopened<(Vec<u32>, Vec<Link>)>>
         ensures { Opened sizes.0 sizes.1 states links result }
     {
-        let (fluents, actions) = sizes;
-        match check(fluents, actions, states.as_slice(), links.as_slice()) {
-            Ok(()) => Ok(TransitionGraph {
-                fluents,
-                actions,
+        match check(sizes, &states, &links) {
+            Ok(sizes) => Ok(TransitionGraph {
+                sizes,
                 states,
                 links,
             }),

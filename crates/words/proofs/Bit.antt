@@ -1,11 +1,11 @@
 -- The bits of a word under and, or and xor, and words with the same bits.
 use Rattle.std.proofs.Common.{◌≡◌, ℕ, zero, suc, ◌+◌, ◌-◌, ◌*◌, ◌/◌, ◌%◌, ◌^◌, ◌<◌, ◌≤◌, min, max, ◌≢◌, ◌⊎◌, sym, ap, ◌∙◌, subst, inl, inr, mod-eq_of_lt, pow-suc, div-one, arith, pow_pos, pow_mono, pow-add, shr-shr}
 use native.Mathlib.Nat.{div-eq_of_lt, zero-div}
-use lib.Bits.{bit_and, bit_or, bit_xor, and_step, or_step, and_shr, or_shr, xor_shr, xor_add_and, and_le_r, and_comm, and_mask}
+use lib.Bits.{bit_and, bit_or, bit_xor, and_step, or_step, and_shr, or_shr, xor_shr, xor_add_and, and_le_l, and_le_r, and_comm, and_mask}
 use lib.Pow.{split, pow-lt, shl-shr, high, ones_split, ones_lt}
 use Rattle.std.proofs.lemmas.Nat.{mod_below}
 use Rattle.std.proofs.lemmas.Bool.{cases_lt, cases_eq}
-use Rattle.words.specs.Words.{bit}
+use Rattle.words.specs.Words.{bit, Covers}
 
 pub bit_or_zero : (w f : ℕ) → (bit w f ≡ 0) ⊎ (bit w f ≡ 1)
 bit_or_zero w f = go (cases_eq (bit w f) 0)
@@ -85,26 +85,19 @@ pub bit_set_other : (w k f : ℕ) → f ≢ k → bit (bit_or w (2 ^ k)) f ≡ b
 bit_set_other w k f n = omega (arith, bit-or w (2 ^ k) f, bit_pow_other k f n)
 
 -- the bits of the mask m are among those of w
-pub subset_sound : (w m : ℕ) → bit_and w m ≡ m → (f : ℕ) → bit m f ≡ 1 → bit w f ≡ 1
-subset_sound w m e f h = omega (arith, bit-and w m f, ap (λ x. bit x f) e)
+pub covers_from : (w m : ℕ) → bit_and w m ≡ m → Covers w m
+covers_from w m e f h = omega (arith, bit-and w m f, ap (λ x. bit x f) e)
 
-pub subset_whole : (w m : ℕ) → m < 2 ^ 32 → ((f : ℕ) → bit m f ≡ 1 → bit w f ≡ 1) → bit_and w m ≡ m
-subset_whole w m l h = same_bits 32 (bit_and w m) m (omega (arith, and_le_r w m)) l (λ f k. go f (bit_or_zero m f))
+pub covers_to : (w m : ℕ) → m < 2 ^ 32 → Covers w m → bit_and w m ≡ m
+covers_to w m l h = same_bits 32 (bit_and w m) m (omega (arith, and_le_r w m)) l (λ f k. go f (bit_or_zero m f))
   where
     go : (f : ℕ) → (bit m f ≡ 0) ⊎ (bit m f ≡ 1) → bit (bit_and w m) f ≡ bit m f
     go f (inl z) = omega (arith, bit-and w m f)
     go f (inr e) = omega (arith, bit-and w m f, h f e)
 
--- the bits of the mask m are outside those of w
-pub disjoint_sound : (w m : ℕ) → bit_and w m ≡ 0 → (f : ℕ) → bit m f ≡ 1 → bit w f ≡ 0
-disjoint_sound w m e f h = omega (arith, bit-and w m f, ap (λ x. bit x f) e, bit_of_zero f)
-
-pub disjoint_whole : (w m : ℕ) → m < 2 ^ 32 → ((f : ℕ) → bit m f ≡ 1 → bit w f ≡ 0) → bit_and w m ≡ 0
-disjoint_whole w m l h = same_bits 32 (bit_and w m) 0 (omega (arith, and_le_r w m)) (pow_pos 32) (λ f k. go f (bit_or_zero m f))
-  where
-    go : (f : ℕ) → (bit m f ≡ 0) ⊎ (bit m f ≡ 1) → bit (bit_and w m) f ≡ bit 0 f
-    go f (inl z) = omega (arith, bit-and w m f, bit_of_zero f)
-    go f (inr e) = omega (arith, bit-and w m f, h f e, bit_of_zero f)
+-- what covers a mask is no smaller
+pub covers_le : (w m : ℕ) → m < 2 ^ 32 → Covers w m → m ≤ w
+covers_le w m l h = subst (λ x. x ≤ w) (covers_to w m l h) (and_le_l w m)
 
 -- the bits of `!m`
 pub bit_not : (m f : ℕ) → m < 2 ^ 32 → f < 32 → bit (4294967295 - m) f + bit m f ≡ 1

@@ -5,28 +5,27 @@ use Rattle.std.proofs.lemmas.Nat.{or_lt}
 use Rattle.std.proofs.lemmas.Bool.{cases_lt, cases_eq, true≢false}
 use Rattle.words.specs.declared.literal.Literal.{Literal}
 use Rattle.words.specs.declared.literals.Literals.{Literals}
-use Rattle.words.specs.Words.{bit, Value, Member, Holds, Within, Joined, Common, Contrary}
-use Rattle.words.proofs.Bit.{bit_or_zero, bit-and, bit-or, bit_not, bit_ones, bit_past, bit_set_same, bit_set_other, subset_sound, subset_whole, disjoint_sound, disjoint_whole}
+use Rattle.words.specs.Words.{bit, Covers, Value, Member, Holds, Within, Joined, Common, Contrary}
+use Rattle.words.proofs.Bit.{bit_or_zero, bit-and, bit-or, bit_not, bit_ones, bit_past, bit_set_same, bit_set_other}
 
-pub holds_from : (m : Literals) (w : ℕ) → bit_and w m.truths ≡ m.truths → bit_and w m.falses ≡ 0 → Holds m w
-holds_from m w p q f true h = subset_sound w m.truths p f h
-holds_from m w p q f false h = disjoint_sound w m.falses q f h
+-- a set holds in a word whose ones cover its truths, and whose zeros cover its falses
+module _ (m : Literals) (w : ℕ) (w-low : w < 2 ^ 32) (f-low : m.falses < 2 ^ 32) where
+  flipped : (f : ℕ) → bit m.falses f ≡ 1 → bit (4294967295 - w) f + bit w f ≡ 1
+  flipped f h = ⊎_elim (bit_not w f w-low) (λ l. absurd (omega (arith, bit_past 32 m.falses f f-low l))) (cases_lt f 32)
 
-pub holds_truths : (m : Literals) (w : ℕ) → m.truths < 2 ^ 32 → Holds m w → bit_and w m.truths ≡ m.truths
-holds_truths m w l h = subset_whole w m.truths l (λ f e. h f true e)
+  pub holds_from : Covers w m.truths → Covers (4294967295 - w) m.falses → Holds m w
+  holds_from p q f true h = p f h
+  holds_from p q f false h = omega (arith, q f h, flipped f h)
 
-pub holds_falses : (m : Literals) (w : ℕ) → m.falses < 2 ^ 32 → Holds m w → bit_and w m.falses ≡ 0
-holds_falses m w l h = disjoint_whole w m.falses l (λ f e. h f false e)
+  pub holds_to : Holds m w → Covers w m.truths × Covers (4294967295 - w) m.falses
+  holds_to k = (λ f h. k f true h, λ f h. omega (arith, k f false h, flipped f h))
 
-pub within_from : (m n : Literals) → bit_and n.truths m.truths ≡ m.truths → bit_and n.falses m.falses ≡ m.falses → Within m n
-within_from m n p q f true h = subset_sound n.truths m.truths p f h
-within_from m n p q f false h = subset_sound n.falses m.falses q f h
+pub within_from : (m n : Literals) → Covers n.truths m.truths → Covers n.falses m.falses → Within m n
+within_from m n p q f true h = p f h
+within_from m n p q f false h = q f h
 
-pub within_truths : (m n : Literals) → m.truths < 2 ^ 32 → Within m n → bit_and n.truths m.truths ≡ m.truths
-within_truths m n l h = subset_whole n.truths m.truths l (λ f e. h f true e)
-
-pub within_falses : (m n : Literals) → m.falses < 2 ^ 32 → Within m n → bit_and n.falses m.falses ≡ m.falses
-within_falses m n l h = subset_whole n.falses m.falses l (λ f e. h f false e)
+pub within_to : (m n : Literals) → Within m n → Covers n.truths m.truths × Covers n.falses m.falses
+within_to m n k = (λ f h. k f true h, λ f h. k f false h)
 
 -- the set of the literals common to two words, of the first n fluents, as the code makes it
 module _ (n s t all : ℕ) (s-low : s < 2 ^ 32) (t-low : t < 2 ^ 32) (is : all ≡ 2 ^ min n 32 - 1) where

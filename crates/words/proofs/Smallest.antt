@@ -19,16 +19,3 @@ pub smallest_like : (P Q : ℕ → Type 0) (least : ℕ) (r : Option ℕ) → ((
     → SmallestFrom least P r → SmallestFrom least Q r
 smallest_like P Q least None to from h = λ t l x. h t l (from t l x)
 smallest_like P Q least (Some t) to from h = (h.0, to t h.0 h.1, λ u l k x. h.2 u l k (from u l x))
-
--- one more number with the property
-pub smallest_more : (P : ℕ → Type 0) (least n : ℕ) (r : Option ℕ) → least ≤ n → SmallestFrom least P r
-    → SmallestFrom least (λ t. P t ⊎ (n ≡ t)) (Some (min (unwrap_or r n) n))
-smallest_more P least n None l h = (omega arith, inr (omega arith), λ u k b. ⊎_elim (h u k) (λ e. omega arith))
-smallest_more P least n (Some t) l h =
-    (omega (arith, h.0), ⊎_elim here there (cases_lt t n), λ u k b. ⊎_elim (h.2 u k (omega arith)) (λ e. omega arith))
-  where
-    here : t < n → P (min t n) ⊎ (n ≡ min t n)
-    here b = let e : t ≡ min t n = omega arith in inl (subst P e h.1)
-
-    there : n ≤ t → P (min t n) ⊎ (n ≡ min t n)
-    there b = inr (omega arith)

@@ -7,6 +7,10 @@ use Rattle.words.specs.declared.literals.Literals.{Literals}
 abbrev pub bit : ℕ → ℕ → ℕ
 bit w f = w / 2 ^ f % 2
 
+-- the word w has each one of the mask m
+abbrev pub Covers : ℕ → ℕ → Type 0
+Covers w m = (f : ℕ) → bit m f ≡ 1 → bit w f ≡ 1
+
 -- the literal of f with the sign v is true in the word w
 abbrev pub Value : ℕ → ℕ → Bool → Type 0
 Value w f v = bit w f ≡ cond v 1 0

@@ -1,5 +1,5 @@
 // A literal: a fluent and its sign.
-ghost use Rattle.std.specs.Prelude.{Decides};
+ghost use Rattle.std.specs.Prelude.{◌↔◌, IsTrue};
 ghost use Rattle.words.specs.Words.{Value};
 
 use crate::word::bit_at;
@@ -13,7 +13,7 @@ pub struct Literal {
 impl Literal {
     // Whether the literal is true in the word; a fluent that the word has no bit for is false in it.
     pub fn holds_in(self, word: u32) -> bool
-        ensures { Decides result (Value word self.fluent self.sign) }
+        ensures { IsTrue result ↔ Value word self.fluent self.sign }
     {
         bit_at(word, self.fluent) == u32::from(self.sign)
     }

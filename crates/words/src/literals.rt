@@ -1,12 +1,12 @@
 // A set of literals as two masks, as the body of a law has it.
-ghost use Rattle.std.specs.Prelude.{◌≡◌, ℕ, ◌<◌, Bool, ◌↔◌, Decides};
+ghost use Rattle.std.specs.Prelude.{◌≡◌, ℕ, ◌<◌, Bool, ◌↔◌, IsTrue};
 ghost use Rattle.words.specs.Words.{bit, Member, Holds, Within, Joined, Common, Contrary, Body};
 
 use crate::literal::Literal;
-use crate::word::{bit_at, first_fluents, is_below};
+use crate::word::{bit_at, covers, first_fluents, is_below};
 
 // The fluents whose literal of sign true is in the set, and those whose literal of sign false is.
-#[derive(Clone, Copy, PartialEq, Eq, Debug)]
+#[derive(Clone, Copy, PartialEq, Eq, Debug, Default)]
 pub struct Literals {
     pub truths: u32,
     pub falses: u32,
@@ -29,7 +29,7 @@ impl Literals {
 
     // Whether the literal stands in the set.
     pub fn contains(self, literal: Literal) -> bool
-        ensures { Decides result (Member self literal.fluent literal.sign) }
+        ensures { IsTrue result ↔ Member self literal.fluent literal.sign }
     {
         let mask = if literal.sign {
             self.truths
@@ -41,16 +41,16 @@ impl Literals {
 
     // Whether each literal of the set is true in the word.
     pub fn holds_in(self, word: u32) -> bool
-        ensures { Decides result (Holds self word) }
+        ensures { IsTrue result ↔ Holds self word }
     {
-        word & self.truths == self.truths && word & self.falses == 0
+        covers(word, self.truths) && covers(!word, self.falses)
     }
 
     // Whether each literal of this set stands in the other.
     pub fn within(self, other: Literals) -> bool
-        ensures { Decides result (Within self other) }
+        ensures { IsTrue result ↔ Within self other }
     {
-        other.truths & self.truths == self.truths && other.falses & self.falses == self.falses
+        covers(other.truths, self.truths) && covers(other.falses, self.falses)
     }
 
     // The set with one more literal, or the same where a word has no bit for its fluent.
@@ -64,12 +64,12 @@ impl Literals {
         if literal.sign {
             Literals {
                 truths: self.truths | one,
-                falses: self.falses,
+                ..self
             }
         } else {
             Literals {
-                truths: self.truths,
                 falses: self.falses | one,
+                ..self
             }
         }
     }
@@ -83,7 +83,7 @@ impl Literals {
 
     // Whether the set can be a body over these fluents: both masks are within them, and have at most eight ones together.
     pub fn is_body(self, fluents: u32) -> bool
-        ensures { Decides result (Body fluents self) }
+        ensures { IsTrue result ↔ Body fluents self }
     {
         is_below(self.truths, fluents)
             && is_below(self.falses, fluents)

@@ -1,6 +1,6 @@
 // Words of 32 fluents, one bit each.
-ghost use Rattle.std.specs.Prelude.{◌≡◌, ◌-◌, ◌^◌, ◌<◌, min, Decides};
-ghost use Rattle.words.specs.Words.{bit};
+ghost use Rattle.std.specs.Prelude.{◌≡◌, ◌-◌, ◌^◌, ◌<◌, ◌↔◌, min, IsTrue};
+ghost use Rattle.words.specs.Words.{bit, Covers};
 
 // Bit f of the word, for the fluent f; a word has no one past bit 31.
 pub fn bit_at(word: u32, fluent: u32) -> u32
@@ -9,9 +9,16 @@ pub fn bit_at(word: u32, fluent: u32) -> u32
     if fluent < 32 { (word >> fluent) & 1 } else { 0 }
 }
 
+// Whether the word has each one of the mask.
+pub(crate) fn covers(word: u32, mask: u32) -> bool
+    ensures { IsTrue result ↔ Covers word mask }
+{
+    word & mask == mask
+}
+
 // Whether the word is below 2 to the power of the count of fluents.
 pub fn is_below(word: u32, fluents: u32) -> bool
-    ensures { Decides result (word < 2 ^ fluents) }
+    ensures { IsTrue result ↔ (word < 2 ^ fluents) }
 {
     fluents >= 32 || word >> fluents == 0
 }

@@ -1,5 +1,6 @@
 // Transition graphs opened, judged and listed.
 use crate::latch;
+use crate::tests::numbers;
 use refusal::part::Part;
 use refusal::reason::Reason;
 use refusal::refusal::Refusal;
@@ -25,13 +26,12 @@ fn graph(
     states: &[u32],
     links: &[Link],
 ) -> Result<TransitionGraph, Fail> {
-    match TransitionGraph::open(sizes, states.to_vec(heap)?, links.to_vec(heap)?) {
-        Ok(graph) => Ok(graph),
-        Err(_) => Err(Fail::new("the graph does not open")),
-    }
+    TransitionGraph::open(sizes, states.to_vec(heap)?, links.to_vec(heap)?).map_err(|_| Fail::new(
+        "the graph does not open",
+    ))
 }
 
-// The number, the part's number and the place of the refusal; both tables must come back as they were.
+// The numbers of the refusal; both tables must come back as they were.
 fn refused(
     heap: Global,
     sizes: (u32, u32),
@@ -45,8 +45,7 @@ fn refused(
             if states_back.len() != states.len() || links_back.len() != links.len() {
                 return Err(Fail::new("the tables do not come back"));
             }
-            let part = no.refusal.part.number();
-            Ok((no.refusal.reason.number(), part, no.refusal.place))
+            Ok(numbers(no.refusal))
         }
     }
 }

@@ -1,34 +1,13 @@
-use Rattle.std.proofs.Common.{sym, subst, arith}
-use Rattle.words.specs.Smallest.{SmallestFrom}
-use Rattle.words.proofs.Smallest.{NoneBetween}
+use Rattle.std.proofs.Common.{rules}
+use Rattle.words.specs.Words.{Turned}
+use Rattle.words.proofs.Upwards.{smallest_from_find}
 use Rattle.theory.specs.Turning.{Turning}
-use Rattle.theory.proofs.Sweeps.{sweep_to, sweep_past, sweep_all, sweep_end}
 use Rattle.theory.proofs.turning.next_turning.Goals as goal
-
-pub returns-then-is_step : goal.returns-then-is_step
-returns-then-is_step g c = (
-  omega (arith, c.in-Some.ensures.0),
-  record { step = c.is_step.ensures.0 c.if-is_step.true; turned = c.in-Some.ensures.1 },
-  sweep_to (g.T.Judging.meaning c.args.theory.now) c.args.s c.args.a c.args.mask c.args.least c.loop-t.from c.in-Some.t c.loop-t.invariant.1 c.in-Some.ensures.2,
-)
-
-pub returns-in_err-from : goal.returns-in_err-from
-returns-in_err-from g c =
-    let m = g.T.Judging.meaning c.args.theory.now in
-    let past = sweep_past m c.args.s c.args.a c.args.mask c.args.least c.loop-t.from c.in-Some.t c.loop-t.invariant.1 c.in-Some.ensures.2
-    c.is_step.result c.is_step.ensures c.if-is_step.false in
-    subst (SmallestFrom c.args.least (Turning m c.args.s c.args.a c.args.mask)) (sym c.from_residual.ensures)
-    (sweep_all m c.args.s c.args.a c.args.mask c.args.least _ past (omega (arith, c.in_err-from.ensures)))
-
-pub loop-t-preserved : goal.loop-t-preserved
-loop-t-preserved g c =
-    let m = g.T.Judging.meaning c.args.theory.now in
-    let past = sweep_past m c.args.s c.args.a c.args.mask c.args.least c.loop-t.from c.in-Some.t c.loop-t.invariant.1 c.in-Some.ensures.2
-    c.is_step.result c.is_step.ensures c.if-is_step.false in (
-      omega (arith, c.in-Some.ensures.0, c.in_ok-from.ensures.1),
-      subst (λ n. NoneBetween c.args.least n (Turning m c.args.s c.args.a c.args.mask)) (sym c.in_ok-from.ensures.1) past,
-    )
 
 pub returns : goal.returns
 returns g c =
-    sweep_end (g.T.Judging.meaning c.args.theory.now) c.args.s c.args.a c.args.mask c.args.least c.loop-t.from c.loop-t.invariant.1 c.in_default.ensures
+    let m = g.T.Judging.meaning c.args.theory.now in
+    smallest_from_find (Turned c.args.s c.args.mask) (m.Step c.args.s c.args.a) (Turning m c.args.s c.args.a c.args.mask)
+    (λ t. (λ x. (x.turned, x.step), λ x. record { step = x.1; turned = x.0 })) (λ t x. x.word)
+    c.new.result c.find.new.self _ c.find.result c.find.ensures.ran c.new.ensures.query c.new.ensures.from
+    (λ n o b. search rules) (λ x h k. search rules) (λ x h k. search rules)

@@ -18,11 +18,6 @@ loop-next-preserved c =
           (jump_past c.args.s c.args.mask c.loop-next.next (omega arith) (omega arith) c.if-stray-eq0.false),
     )
 
-pub loop-next-smaller : goal.loop-next-smaller
-loop-next-smaller c =
-    let up = jump_up c.args.s c.args.mask c.loop-next.next (omega arith) (omega arith) c.if-stray-eq0.false in
-    omega arith
-
 pub returns : goal.returns
 returns c t low turned =
     c.loop-next.invariant.1 t low (omega (arith, turned.word)) turned

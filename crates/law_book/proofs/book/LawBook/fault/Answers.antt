@@ -1,18 +1,7 @@
 use Rattle.std.proofs.lemmas.Bool.Decides.{not_from_Decides}
 use Rattle.law_book.specs.Books.{laws_of}
-use Rattle.law_book.proofs.Steps.{none_contrary_from, none_contrary_to, all_caused_from, all_caused_to}
+use Rattle.law_book.proofs.Steps.{none_contrary_from, all_caused_to}
 use Rattle.law_book.proofs.book.LawBook.fault.Goals as goal
-
-pub returns-then-not-within : goal.returns-then-not-within
-returns-then-not-within c = (
-  c.has_state.ensures.0 c.if-not-has_state.false,
-  c.if-a-self.false,
-  c.permits.ensures.0 c.if-not-permits.false,
-  c.has_state-2.ensures.0 c.if-not-has_state-2.false,
-  λ h. not_from_Decides _ c.within.ensures c.if-not-within.true
-      (none_contrary_to c.args.self.now.fluents (laws_of c.args.self.now) c.args.s c.args.a c.args.t c.caused-caused.result c.common-own.result
-      c.args.self.now.sized.1 c.caused-caused.ensures.value c.common-own.ensures h),
-)
 
 pub returns-then-not-within-2 : goal.returns-then-not-within-2
 returns-then-not-within-2 c = (
@@ -20,21 +9,9 @@ returns-then-not-within-2 c = (
   c.if-a-self.false,
   c.permits.ensures.0 c.if-not-permits.false,
   c.has_state-2.ensures.0 c.if-not-has_state-2.false,
-  none_contrary_from c.args.self.now.fluents (laws_of c.args.self.now) c.args.s c.args.a c.args.t c.caused-caused.result c.common-own.result
-      c.args.self.now.sized.1 c.caused-caused.ensures.value c.common-own.ensures (c.within.ensures.0 c.if-not-within.false),
+  none_contrary_from c.args.self.now.sizes.fluents (laws_of c.args.self.now) c.args.s c.args.a c.args.t c.caused-caused.result c.common-own.result
+      c.args.self.now.sizes.in_range.1 c.caused-caused.ensures.value c.common-own.ensures (c.within.ensures.0 c.if-not-within.false),
   λ h. not_from_Decides _ c.within-2.ensures c.if-not-within-2.true
-      (all_caused_to c.args.self.now.fluents (laws_of c.args.self.now) c.args.s c.args.a c.args.t c.caused-caused.result c.common-own.result
-      c.args.self.now.sized.1 c.caused-caused.ensures.value c.common-own.ensures h),
+      (all_caused_to c.args.self.now.sizes.fluents (laws_of c.args.self.now) c.args.s c.args.a c.args.t c.caused-caused.result c.common-own.result
+      c.args.self.now.sizes.in_range.1 c.caused-caused.ensures.value c.common-own.ensures h),
 )
-
-pub returns : goal.returns
-returns c = record {
-  from = c.has_state.ensures.0 c.if-not-has_state.false;
-  action = c.if-a-self.false;
-  runs = c.permits.ensures.0 c.if-not-permits.false;
-  to = c.has_state-2.ensures.0 c.if-not-has_state-2.false;
-  none_contrary = none_contrary_from c.args.self.now.fluents (laws_of c.args.self.now) c.args.s c.args.a c.args.t c.caused-caused.result c.common-own.result
-      c.args.self.now.sized.1 c.caused-caused.ensures.value c.common-own.ensures (c.within.ensures.0 c.if-not-within.false);
-  all_caused = all_caused_from c.args.self.now.fluents (laws_of c.args.self.now) c.args.s c.args.a c.args.t c.caused-caused.result c.common-own.result
-      c.args.self.now.sized.1 c.caused-caused.ensures.value c.common-own.ensures (c.within-2.ensures.0 c.if-not-within-2.false);
-}

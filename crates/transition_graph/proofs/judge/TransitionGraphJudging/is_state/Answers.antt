@@ -1,8 +1,7 @@
-use Rattle.std.proofs.Common.{ℕ, List, Decides, subst}
-use Rattle.std.specs.List.{ContainsAt as Has}
+use Rattle.std.proofs.Common.{nat_eq}
+use Rattle.std.proofs.lemmas.Bool.Decides.{Decides-eqb}
+use Rattle.std.proofs.lemmas.List.Elements.{contains_decides, Decides-contains}
 use Rattle.transition_graph.proofs.judge.TransitionGraphJudging.is_state.Goals as goal
 
 pub returns : goal.returns
-returns c =
-    let P : List ℕ → Type 0 = λ xs. Decides c.lists.result (Has xs c.args.s) in
-    subst P c.states.ensures c.lists.ensures
+returns c = rw (← c.deref.ensures.value) (Decides-contains _ _ _ (contains_decides nat_eq Decides-eqb _ _ _ c.contains.ensures.cases))

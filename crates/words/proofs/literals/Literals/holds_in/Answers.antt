@@ -1,15 +1,16 @@
-use Rattle.std.proofs.Common.{arith, eq-eqb, eqb-true}
-use Rattle.words.proofs.Masks.{holds_from, holds_truths, holds_falses}
+use Rattle.std.proofs.Common.{sym, ◌∙◌, arith}
+use Rattle.std.proofs.lemmas.Bool.{true≢false}
+use Rattle.words.proofs.Masks.{holds_from, holds_to}
 use Rattle.words.proofs.literals.Literals.holds_in.Goals as goal
 
-pub returns-then-word-self : goal.returns-then-word-self
-returns-then-word-self c = (
-  λ e. holds_from c.args.self c.args.word c.if-word-self.true (eqb-true _ _ e),
-  λ h. eq-eqb _ _ (holds_falses c.args.self c.args.word (omega arith) h),
+pub returns-then-covers : goal.returns-then-covers
+returns-then-covers c = (
+  λ e. holds_from c.args.self c.args.word (omega arith) (omega arith) (c.covers.ensures.0 c.if-covers.true) (c.covers-then-covers.ensures.0 e),
+  λ h. c.covers-then-covers.ensures.1 (holds_to c.args.self c.args.word (omega arith) (omega arith) h).1,
 )
 
-pub returns-else-word-self : goal.returns-else-word-self
-returns-else-word-self c = (
-  λ e. absurd (c.if-word-self.false (eqb-true _ _ e)),
-  λ h. eq-eqb _ _ (holds_truths c.args.self c.args.word (omega arith) h),
+pub returns-else-covers : goal.returns-else-covers
+returns-else-covers c = (
+  λ e. absurd (true≢false (sym e ∙ c.if-covers.false)),
+  λ h. c.covers.ensures.1 (holds_to c.args.self c.args.word (omega arith) (omega arith) h).0,
 )

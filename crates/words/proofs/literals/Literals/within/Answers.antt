@@ -1,15 +1,16 @@
-use Rattle.std.proofs.Common.{arith, eq-eqb, eqb-true}
-use Rattle.words.proofs.Masks.{within_from, within_truths, within_falses}
+use Rattle.std.proofs.Common.{sym, ◌∙◌}
+use Rattle.std.proofs.lemmas.Bool.{true≢false}
+use Rattle.words.proofs.Masks.{within_from, within_to}
 use Rattle.words.proofs.literals.Literals.within.Goals as goal
 
-pub returns-then-other-self : goal.returns-then-other-self
-returns-then-other-self c = (
-  λ e. within_from c.args.self c.args.other c.if-other-self.true (eqb-true _ _ e),
-  λ h. eq-eqb _ _ (within_falses c.args.self c.args.other (omega arith) h),
+pub returns-then-covers : goal.returns-then-covers
+returns-then-covers c = (
+  λ e. within_from c.args.self c.args.other (c.covers.ensures.0 c.if-covers.true) (c.covers-then-covers.ensures.0 e),
+  λ h. c.covers-then-covers.ensures.1 (within_to c.args.self c.args.other h).1,
 )
 
-pub returns-else-other-self : goal.returns-else-other-self
-returns-else-other-self c = (
-  λ e. absurd (c.if-other-self.false (eqb-true _ _ e)),
-  λ h. eq-eqb _ _ (within_truths c.args.self c.args.other (omega arith) h),
+pub returns-else-covers : goal.returns-else-covers
+returns-else-covers c = (
+  λ e. absurd (true≢false (sym e ∙ c.if-covers.false)),
+  λ h. c.covers.ensures.1 (within_to c.args.self c.args.other h).0,
 )
