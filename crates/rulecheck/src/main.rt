@@ -8,7 +8,7 @@ mod why;
 use anyhow::anyhow;
 use law_book::book::LawBook;
 use packs::drain;
-use show::{show_book, show_run};
+use show::Report;
 use theory::step::Step;
 
 // The release that the pack allows: after the cells are warm and no longer full.
@@ -44,10 +44,15 @@ fn run(rt: &HostRuntime) -> anyhow::Result<()> {
     let Ok(book) = LawBook::open(drain::SIZES, laws) else {
         return Err(anyhow!("the book Drain does not open"));
     };
-    show_book(rt, &book)?;
-    show_run(rt, &book, 1, 7, &DRAINED)?;
-    show_run(rt, &book, 2, 7, &RELEASED_EARLY)?;
-    show_run(rt, &book, 3, 7, &RELEASED_IN_VAIN)?;
+    let report = Report {
+        rt,
+        names: names::DRAIN,
+        book: &book,
+    };
+    report.show_book("Pack book Drain")?;
+    report.show_run(1, 7, &DRAINED)?;
+    report.show_run(2, 7, &RELEASED_EARLY)?;
+    report.show_run(3, 7, &RELEASED_IN_VAIN)?;
     Ok(())
 }
 

@@ -1,74 +1,123 @@
-// The names of Drain's fluents and actions, and laws and words in them.
+// The names of a pack's fluents and actions, and laws and words in them.
 use law_book::law::{Kind, Law};
-use packs::drain;
 use std::fmt;
 use words::literal::Literal;
 use words::literals::Literals;
 
-// A fluent by its name.
+// The names, in the order of the numbers.
 #[derive(Clone, Copy)]
-pub struct Fluent(pub u32);
+pub struct Names {
+    fluents: &'static [&'static str],
+    actions: &'static [&'static str],
+}
 
-impl fmt::Display for Fluent {
-    fn fmt<W: fmt::Write>(&self, f: &mut fmt::Formatter<W>) -> fmt::Result {
-        match self.0 {
-            drain::COLD => write!(f, "cold"),
-            drain::FULL => write!(f, "full"),
-            drain::DRAIN => write!(f, "drain"),
-            other => write!(f, "fluent {other}"),
+pub const DRAIN: Names = Names {
+    fluents: &["cold", "full", "drain"],
+    actions: &["thaw", "release", "discharge"],
+};
+
+impl Names {
+    // A fluent by its name.
+    pub fn fluent(self, number: u32) -> Name {
+        Name {
+            known: self.fluents,
+            kind: "fluent",
+            number,
+        }
+    }
+
+    // An action by its name.
+    pub fn action(self, number: u32) -> Name {
+        Name {
+            known: self.actions,
+            kind: "action",
+            number,
+        }
+    }
+
+    // A literal, as 'cold' or 'not cold'.
+    pub fn literal(self, literal: Literal) -> Worded {
+        Worded {
+            fluent: self.fluent(literal.fluent),
+            sign: literal.sign,
+        }
+    }
+
+    // A word of a theory with so many fluents, as its number and its literals.
+    pub fn word(self, fluents: u32, word: u32) -> Word {
+        let literals = Literals::common(fluents, word, word);
+        Word {
+            word,
+            literals: self.conditions("", literals),
+        }
+    }
+
+    // A law as a sentence.
+    pub fn law(self, law: Law) -> Sentence {
+        Sentence {
+            kind: law.kind,
+            action: self.action(law.action),
+            head: self.literal(law.head),
+            when: self.conditions(" if ", law.body),
+        }
+    }
+
+    // The literals of a set, with commas, after the text that leads to them; nothing for none.
+    fn conditions(self, lead: &'static str, literals: Literals) -> Conditions {
+        Conditions {
+            names: self,
+            lead,
+            literals,
         }
     }
 }
 
-// An action by its name.
+// The name that stands at the number, or else the kind with the number.
 #[derive(Clone, Copy)]
-pub struct Action(pub u32);
+pub struct Name {
+    known: &'static [&'static str],
+    kind: &'static str,
+    number: u32,
+}
 
-impl fmt::Display for Action {
+impl fmt::Display for Name {
     fn fmt<W: fmt::Write>(&self, f: &mut fmt::Formatter<W>) -> fmt::Result {
-        match self.0 {
-            drain::THAW => write!(f, "thaw"),
-            drain::RELEASE => write!(f, "release"),
-            drain::DISCHARGE => write!(f, "discharge"),
-            other => write!(f, "action {other}"),
+        match self.known.get(self.number as usize) {
+            Some(name) => write!(f, "{name}"),
+            None => write!(f, "{} {}", self.kind, self.number),
         }
     }
 }
 
-// A literal, as 'cold' or 'not cold'.
 #[derive(Clone, Copy)]
-pub struct Worded(pub Literal);
+pub struct Worded {
+    fluent: Name,
+    sign: bool,
+}
 
 impl fmt::Display for Worded {
     fn fmt<W: fmt::Write>(&self, f: &mut fmt::Formatter<W>) -> fmt::Result {
-        let fluent = Fluent(self.0.fluent);
-        if self.0.sign {
-            write!(f, "{fluent}")
-        } else {
-            write!(f, "not {fluent}")
-        }
+        let not = if self.sign { "" } else { "not " };
+        write!(f, "{not}{}", self.fluent)
     }
 }
 
-// The literals of a body, with commas, after the word that leads to them; nothing for none.
 #[derive(Clone, Copy)]
-pub struct Conditions<'a>(pub &'a str, pub Literals);
+struct Conditions {
+    names: Names,
+    lead: &'static str,
+    literals: Literals,
+}
 
-impl fmt::Display for Conditions<'_> {
+impl fmt::Display for Conditions {
     fn fmt<W: fmt::Write>(&self, f: &mut fmt::Formatter<W>) -> fmt::Result {
-        let lead = self.0;
-        let mut first = true;
+        let mut before = self.lead;
         for fluent in 0..32u32 {
             for sign in [true, false] {
                 let literal = Literal { fluent, sign };
-                if self.1.contains(literal) {
-                    let words = Worded(literal);
-                    if first {
-                        write!(f, "{lead}{words}")?;
-                    } else {
-                        write!(f, ", {words}")?;
-                    }
-                    first = false;
+                if self.literals.contains(literal) {
+                    write!(f, "{before}{}", self.names.literal(literal))?;
+                    before = ", ";
                 }
             }
         }
@@ -76,28 +125,35 @@ impl fmt::Display for Conditions<'_> {
     }
 }
 
-// A word of a book with so many fluents, as its number and its literals.
 #[derive(Clone, Copy)]
-pub struct Word(pub u32, pub u32);
+pub struct Word {
+    word: u32,
+    literals: Conditions,
+}
 
 impl fmt::Display for Word {
     fn fmt<W: fmt::Write>(&self, f: &mut fmt::Formatter<W>) -> fmt::Result {
-        let word = self.1;
-        let literals = Conditions("", Literals::common(self.0, word, word));
-        write!(f, "{word} ({literals})")
+        write!(f, "{} ({})", self.word, self.literals)
     }
 }
 
-// A law as a sentence.
 #[derive(Clone, Copy)]
-pub struct Sentence(pub Law);
+pub struct Sentence {
+    kind: Kind,
+    action: Name,
+    head: Worded,
+    when: Conditions,
+}
 
 impl fmt::Display for Sentence {
     fn fmt<W: fmt::Write>(&self, f: &mut fmt::Formatter<W>) -> fmt::Result {
-        let action = Action(self.0.action);
-        let head = Worded(self.0.head);
-        let when = Conditions(" if ", self.0.body);
-        match self.0.kind {
+        let Sentence {
+            kind,
+            action,
+            head,
+            when,
+        } = *self;
+        match kind {
             Kind::Static => write!(f, "{head}{when}"),
             Kind::Dynamic => write!(f, "{action} causes {head}{when}"),
             Kind::Executability => write!(f, "{action} may run{when}"),
