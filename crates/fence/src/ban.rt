@@ -1,10 +1,10 @@
-// The bans of a fence.
+//! The bans of a fence.
 ghost use Rattle.std.specs.Prelude.{◌↔◌, IsTrue};
 ghost use Rattle.fence.specs.Bans.{GoodBan, Bars};
 
 use words::literals::Literals;
 
-// An action, and the literals that bar it: it may not run where all of them are true.
+/// An action, and the literals that bar it: it may not run where all of them are true.
 #[derive(Clone, Copy, PartialEq, Eq, Debug, Default)]
 pub struct Ban {
     pub action: u32,
@@ -19,7 +19,7 @@ impl Ban {
         self.action < actions && self.body.is_body(fluents)
     }
 
-    // Whether it bars the action in s.
+    /// Whether it bars the action in s.
     pub fn bars(self, s: u32, a: u32) -> bool
         ensures { IsTrue result ↔ Bars s a self }
     {

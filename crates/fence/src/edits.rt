@@ -1,4 +1,4 @@
-// The making of a fence, and its bans.
+//! The making of a fence, and its bans.
 ghost use Rattle.std.specs.Prelude.{◌≡◌, ◌↔◌, [], IsTrue};
 ghost use Rattle.theory.specs.Meaning.{Same};
 ghost use Rattle.fence.specs.Bans.{Barred};
@@ -13,14 +13,14 @@ use refusal::refusal::Refusal;
 use theory::judging::Judging;
 
 impl<W> Fence<W> {
-    // The theory below.
+    /// The theory below.
     pub fn below(&self) -> &W
         ensures { result.now ≡ self.now.below }
     {
         &self.below
     }
 
-    // The bans, in the order in which they came.
+    /// The bans, in the order in which they came.
     pub fn bans(&self) -> &[Ban]
         ensures { result.now ≡ bans_of self.now }
     {
@@ -36,7 +36,7 @@ impl<W> Fence<W> {
 }
 
 impl<W: Judging> Fence<W> {
-    // The fence over the theory, with no ban yet: it means what the theory means.
+    /// The fence over the theory, with no ban yet: it means what the theory means.
     pub fn over(below: W) -> Fence<W>
         ensures below { result.below ≡ below }
         ensures bans { bans_of result ≡ [] }
@@ -48,7 +48,7 @@ impl<W: Judging> Fence<W> {
         }
     }
 
-    // One more ban, unless there are sixteen already or it breaks its rule.
+    /// One more ban, unless there are sixteen already or it breaks its rule.
     pub fn ban(&mut self, ban: Ban) -> Result<(), Refusal>
         ensures { Adds W.Judging.meaning self.old ban result self.new }
     {

@@ -1,11 +1,11 @@
-// A fence over a theory.
+//! A fence over a theory.
 use crate::ban::Ban;
 use arrayvec::ArrayVec;
 
 // The most bans of a fence.
 const MOST_BANS: usize = 16;
 
-// The theory below, held by value, and the bans.
+/// The theory below, held by value, and the bans.
 #[derive(Drop)]
 pub struct Fence<W> {
     pub(crate) below: W,

@@ -1,4 +1,4 @@
-// A fence judges words and steps by the theory below and its bans.
+//! A fence judges words and steps by the theory below and its bans.
 ghost use Rattle.fence.specs.Fences.{fence_meaning};
 ghost use Rattle.std.proofs.Common.{rules};
 

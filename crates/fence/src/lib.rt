@@ -1,4 +1,4 @@
-// Fences: theories made over any other theory, which ban some of its steps.
+//! Fences: theories made over any other theory, which ban some of its steps.
 #![tactic(auto)]
 
 pub mod ban;

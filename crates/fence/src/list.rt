@@ -1,4 +1,4 @@
-// A fence lists where an action leads, if the theory below does.
+//! A fence lists where an action leads, if the theory below does.
 use crate::fence::Fence;
 use theory::judging::Judging;
 use theory::listing::Listing;

@@ -1,4 +1,4 @@
-// What a law book causes between two words by an action.
+//! What a law book causes between two words by an action.
 ghost use Rattle.std.specs.Prelude.{ℕ, Bool, ◌⊎◌, ◌↔◌};
 ghost use Rattle.words.specs.Words.{Member, Within};
 ghost use Rattle.law_book.specs.Laws.{Effect, Closed, Least, Caused};
@@ -9,8 +9,8 @@ use crate::book::LawBook;
 use words::literals::Literals;
 
 impl LawBook {
-    // The literals caused between s and t by the action: the least set that contains its direct effects and the
-    // literals common to s and t and is closed under the static laws.
+    /// The literals caused between s and t by the action: the least set that contains its direct effects and the
+    /// literals common to s and t and is closed under the static laws.
     pub fn caused(&self, s: u32, a: u32, t: u32) -> Literals
         ensures value { (f : ℕ) (v : Bool) → Member result f v ↔ Caused self.now.sizes.fluents (laws_of self.now) s a t f v }
         ensures least { CausedIsLeast }

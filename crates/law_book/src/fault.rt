@@ -1,10 +1,10 @@
-// Why a book has no such step.
+//! Why a book has no such step.
 ghost use Rattle.std.specs.Prelude.{Some};
 ghost use Rattle.law_book.specs.Faults.{fault_sentence};
 
 use std::fmt;
 
-// The first of these that fits, in this order, is the fault of a step that is none.
+/// The first of these that fits, in this order, is the fault of a step that is none.
 #[derive(Clone, Copy, PartialEq, Eq, Debug)]
 pub enum Fault {
     FromNotAState,

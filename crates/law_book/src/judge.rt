@@ -1,4 +1,4 @@
-// A law book judges words and steps.
+//! A law book judges words and steps.
 ghost use Rattle.law_book.specs.Books.{book_meaning};
 ghost use Rattle.std.proofs.Common.{rules};
 

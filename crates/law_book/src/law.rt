@@ -1,4 +1,4 @@
-// The records of a law book.
+//! The records of a law book.
 ghost use Rattle.std.specs.Prelude.{◌≡◌, ◌↔◌, IsTrue};
 ghost use Rattle.law_book.specs.Laws.{Good, Unused, Obeys, Permission, Permits, TakesEffect, Fires, kind_number, static_law, dynamic_law, executability_law};
 
@@ -6,7 +6,7 @@ use theory::sizes::Sizes;
 use words::literal::Literal;
 use words::literals::Literals;
 
-#[derive(Clone, Copy, PartialEq, Eq)]
+#[derive(Clone, Copy, PartialEq, Eq, Debug)]
 pub enum Kind {
     Static = 1,
     Dynamic = 2,
@@ -14,7 +14,7 @@ pub enum Kind {
 }
 
 impl Kind {
-    // The number of the kind, 1 to 3.
+    /// The number of the kind, 1 to 3.
     pub fn number(self) -> u32
         ensures { result ≡ kind_number self }
     {
@@ -22,8 +22,8 @@ impl Kind {
     }
 }
 
-// A record of the table. A static law does not use its action, nor an executability law its head.
-#[derive(Clone, Copy)]
+/// A record of the table. A static law does not use its action, nor an executability law its head.
+#[derive(Clone, Copy, PartialEq, Eq, Debug)]
 pub struct Law {
     pub kind: Kind,
     pub action: u32,
@@ -32,7 +32,7 @@ pub struct Law {
 }
 
 impl Law {
-    // The static law: the head is true in each state where the body holds.
+    /// The static law: the head is true in each state where the body holds.
     pub fn static_law(head: Literal, body: Literals) -> Law
         ensures { result ≡ static_law head body }
     {
@@ -44,7 +44,7 @@ impl Law {
         }
     }
 
-    // The dynamic law: the action makes the head true if the body held before.
+    /// The dynamic law: the action makes the head true if the body held before.
     pub fn dynamic_law(action: u32, head: Literal, body: Literals) -> Law
         ensures { result ≡ dynamic_law action head body }
     {
@@ -56,7 +56,7 @@ impl Law {
         }
     }
 
-    // The executability law: the action may run where the body holds.
+    /// The executability law: the action may run where the body holds.
     pub fn executability_law(action: u32, body: Literals) -> Law
         ensures { result ≡ executability_law action body }
     {

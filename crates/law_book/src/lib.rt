@@ -1,4 +1,4 @@
-// Law books: action theories given by a table of causal laws, in action language B.
+//! Law books: action theories given by a table of causal laws, in action language B.
 #![tactic(auto)]
 
 pub mod book;

@@ -1,4 +1,4 @@
-// A law book lists where an action leads.
+//! A law book lists where an action leads.
 ghost use Rattle.std.specs.Prelude.{◌≡◌, ℕ, ◌↔◌};
 ghost use Rattle.words.specs.Words.{bit};
 ghost use Rattle.law_book.specs.Books.{laws_of};
@@ -9,8 +9,8 @@ use theory::listing::Listing;
 use theory::turning::next_turning;
 
 impl LawBook {
-    // The fluents that the action can turn in s, as a mask. Whatever it causes follows from its direct effects and the
-    // literals of s, so no step turns another.
+    /// The fluents that the action can turn in s, as a mask. Whatever it causes follows from its direct effects and the
+    /// literals of s, so no step turns another.
     pub fn turnable(&self, s: u32, a: u32) -> u32
         ensures value { (f : ℕ) → bit result f ≡ 1 ↔ CanTurn self.now.sizes.fluents (laws_of self.now) s a f }
         ensures covers { Covers self.now.sizes.fluents self.now.sizes.actions (laws_of self.now) s a result }

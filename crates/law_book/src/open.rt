@@ -1,4 +1,4 @@
-// The opening of a law book.
+//! The opening of a law book.
 ghost use Rattle.std.specs.Prelude.{◌≡◌};
 ghost use Rattle.refusal.specs.Order.{Ordered};
 ghost use Rattle.law_book.specs.Laws.{Good};
@@ -39,7 +39,8 @@ fn check(pair: (u32, u32), laws: &[Law]) -> Result<Sizes, Refusal>
 }
 
 impl LawBook {
-    // The book of these sizes, fluents first, and laws. A refusal hands the table back.
+    /// The book of these sizes, fluents first, and laws. A refusal hands the table back.
+    // Not one function with the opening of a graph: what both share, sizes and entries, is called in `check`.
     pub fn open(sizes: (u32, u32), laws: Vec<Law>) -> Result<LawBook, Unopened<Vec<Law>>>
         ensures { Opened sizes.0 sizes.1 laws result }
     {

@@ -1,4 +1,4 @@
-// What a law book tells of itself: its laws, what a word breaks, and why a step is none.
+//! What a law book tells of itself: its laws, what a word breaks, and why a step is none.
 ghost use Rattle.std.specs.Prelude.{◌≡◌, ◌↔◌, IsTrue};
 ghost use Rattle.law_book.specs.Laws.{IsState, MayRun, Silent};
 ghost use Rattle.law_book.specs.Books.{laws_of, Breaks};
@@ -12,14 +12,14 @@ use words::literals::Literals;
 use words::word::is_below;
 
 impl LawBook {
-    // The laws, in the order of the table.
+    /// The laws, in the order of the table.
     pub fn laws(&self) -> &[Law]
         ensures { result.now ≡ laws_of self.now }
     {
         self.laws.as_slice()
     }
 
-    // Whether the book has a law at this place, and the word breaks it.
+    /// Whether the book has a law at this place, and the word breaks it.
     pub fn breaks(&self, word: u32, place: usize) -> bool
         ensures { IsTrue result ↔ Breaks (laws_of self.now) word place }
     {
@@ -29,7 +29,7 @@ impl LawBook {
         }
     }
 
-    // Why (s, a, t) is no step, or nothing where it is one.
+    /// Why (s, a, t) is no step, or nothing where it is one.
     pub fn fault(&self, s: u32, a: u32, t: u32) -> Option<Fault>
         ensures { Explained self.now.sizes.fluents self.now.sizes.actions (laws_of self.now) s a t result }
     {

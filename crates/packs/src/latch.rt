@@ -1,13 +1,13 @@
-// Latch: the lid of a bought-in module, given as a graph. Pressing the lid shuts it or leaves it as it was.
+//! Latch: the lid of a bought-in module, given as a graph. Pressing the lid shuts it or leaves it as it was.
 ghost use Rattle.std.specs.Prelude.{◌≡◌};
 ghost use Rattle.packs.specs.Latch.{latch_states, latch_links};
 
 use transition_graph::link::Link;
 
-// The counts of fluents and of actions.
+/// The counts of fluents and of actions.
 pub const SIZES: (u32, u32) = (2, 4);
 
-// The fluents.
+// The fluents. Numbers and no enum, as laws and queries take any number: an enum would be turned into one at each use.
 pub const SHUT: u32 = 0;
 
 pub const LOCKED: u32 = 1;
@@ -21,14 +21,14 @@ pub const UNLOCK: u32 = 2;
 
 pub const LIFT: u32 = 3;
 
-// Open, shut, and shut and locked.
+/// Open, shut, and shut and locked.
 pub fn states() -> [u32; 3]
     ensures { result ≡ latch_states }
 {
     [0, 1, 3]
 }
 
-// Where each action leads.
+/// Where each action leads.
 pub fn links() -> [Link; 5]
     ensures { result ≡ latch_links }
 {

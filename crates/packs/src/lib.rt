@@ -1,4 +1,4 @@
-// Known packs and modules, as tables that open.
+//! Known packs and modules, as tables that open.
 #![tactic(auto)]
 
 pub mod drain;

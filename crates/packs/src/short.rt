@@ -1,4 +1,4 @@
-// Short forms for the tables.
+//! Short forms for the tables.
 ghost use Rattle.std.specs.Prelude.{◌≡◌};
 ghost use Rattle.packs.specs.Short.{on_of, off_of, body_of};
 
@@ -12,7 +12,8 @@ pub(crate) fn on(fluent: u32) -> Literal
     Literal { fluent, sign: true }
 }
 
-// The literal that the fluent is false.
+// The literal that the fluent is false. Not one function with `on`: `off(COLD)` says what `literal(COLD, false)` leaves to the
+// reader.
 pub(crate) fn off(fluent: u32) -> Literal
     ensures { result ≡ off_of fluent }
 {

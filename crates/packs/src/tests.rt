@@ -1,4 +1,4 @@
-// Books opened and asked, by examples that are worked by hand.
+//! Books opened and asked, by examples that are worked by hand.
 mod fences;
 mod graphs;
 mod listing;
@@ -18,7 +18,7 @@ use theory::step::Step;
 
 // The book of the laws, which must open.
 fn opened(heap: Global, sizes: (u32, u32), laws: &[Law]) -> Result<LawBook, Fail> {
-    LawBook::open(sizes, laws.to_vec(heap)?).map_err(|_| Fail::new("the book does not open"))
+    Ok(LawBook::open(sizes, laws.to_vec(heap)?)?)
 }
 
 // The number of the refusal, that of its part, and the place.

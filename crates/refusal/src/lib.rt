@@ -1,4 +1,4 @@
-// Refusals: why a call said no, and where. Every other crate stands on this one.
+//! Refusals: why a call said no, and where. Every other crate stands on this one.
 #![tactic(auto)]
 
 pub mod part;

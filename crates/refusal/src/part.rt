@@ -1,11 +1,12 @@
-// What the place of a refusal counts.
+//! What the place of a refusal counts.
 ghost use Rattle.std.specs.Prelude.{◌≡◌, Some};
 ghost use Rattle.refusal.specs.Numbers.{part_number};
 ghost use Rattle.refusal.specs.Sentences.{word_of};
 
 use std::fmt;
 
-// One case for each part, with its number.
+/// One case for each part, with its number.
+// `NoPart` is a case and no `Option` around the others: a refusal is a number, a part and a place, and 0 is a part's number.
 #[derive(Clone, Copy, PartialEq, Eq, Debug)]
 pub enum Part {
     NoPart = 0,
@@ -19,7 +20,7 @@ pub enum Part {
 }
 
 impl Part {
-    // The number of the part, 0 to 7.
+    /// The number of the part, 0 to 7.
     pub fn number(self) -> u32
         ensures { result ≡ part_number self }
     {

@@ -1,11 +1,11 @@
-// Why a call refuses.
+//! Why a call refuses.
 ghost use Rattle.std.specs.Prelude.{◌≡◌, Some};
 ghost use Rattle.refusal.specs.Numbers.{reason_number};
 ghost use Rattle.refusal.specs.Sentences.{sentence_of};
 
 use std::fmt;
 
-// One case for each reason of the table of refusals, with its number.
+/// One case for each reason of the table of refusals, with its number.
 #[derive(Clone, Copy, PartialEq, Eq, Debug)]
 pub enum Reason {
     VacantPlace = 1,
@@ -30,7 +30,7 @@ pub enum Reason {
 }
 
 impl Reason {
-    // The number of the reason, 1 to 19.
+    /// The number of the reason, 1 to 19.
     pub fn number(self) -> u32
         ensures { result ≡ reason_number self }
     {

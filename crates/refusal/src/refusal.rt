@@ -1,10 +1,11 @@
-// A refusal: a reason, the part that it speaks of, and the place in that part.
+//! A refusal: a reason, the part that it speaks of, and the place in that part.
 ghost use Rattle.std.specs.Prelude.{◌≡◌, Some};
 ghost use Rattle.refusal.specs.Refusals.{plain, at};
 ghost use Rattle.refusal.specs.Sentences.{shown_of};
 
 use crate::part::Part;
 use crate::reason::Reason;
+use std::error::Error;
 use std::fmt;
 
 #[derive(Clone, Copy, PartialEq, Eq, Debug)]
@@ -15,14 +16,14 @@ pub struct Refusal {
 }
 
 impl Refusal {
-    // The refusal that speaks of no part.
+    /// The refusal that speaks of no part.
     pub fn plain(reason: Reason) -> Refusal
         ensures { result ≡ plain reason }
     {
         Refusal::at(reason, Part::NoPart, 0)
     }
 
-    // The refusal that names a part and a place in it.
+    /// The refusal that names a part and a place in it.
     pub fn at(reason: Reason, part: Part, place: usize) -> Refusal
         ensures { result ≡ at reason part place }
     {
@@ -51,3 +52,5 @@ impl fmt::Display for Refusal {
         }
     }
 }
+
+impl Error for Refusal {}

@@ -1,4 +1,4 @@
-// Shows the pack book Drain in words, and holds three recorded runs against it.
+//! Shows the pack book Drain in words, and holds three recorded runs against it.
 #![tactic(auto)]
 
 mod names;

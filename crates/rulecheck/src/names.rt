@@ -1,10 +1,10 @@
-// The names of a pack's fluents and actions, and laws and words in them.
+//! The names of a pack's fluents and actions, and laws and words in them.
 use law_book::law::{Kind, Law};
 use std::fmt;
 use words::literal::Literal;
 use words::literals::Literals;
 
-// The names, in the order of the numbers.
+/// The names, in the order of the numbers.
 #[derive(Clone, Copy)]
 pub struct Names {
     fluents: &'static [&'static str],
@@ -17,7 +17,7 @@ pub const DRAIN: Names = Names {
 };
 
 impl Names {
-    // A fluent by its name.
+    /// A fluent by its name.
     pub fn fluent(self, number: u32) -> Name {
         Name {
             known: self.fluents,
@@ -26,7 +26,7 @@ impl Names {
         }
     }
 
-    // An action by its name.
+    /// An action by its name.
     pub fn action(self, number: u32) -> Name {
         Name {
             known: self.actions,
@@ -35,7 +35,7 @@ impl Names {
         }
     }
 
-    // A literal, as 'cold' or 'not cold'.
+    /// A literal, as 'cold' or 'not cold'.
     pub fn literal(self, literal: Literal) -> Worded {
         Worded {
             fluent: self.fluent(literal.fluent),
@@ -43,7 +43,7 @@ impl Names {
         }
     }
 
-    // A word of a theory with so many fluents, as its number and its literals.
+    /// A word of a theory with so many fluents, as its number and its literals.
     pub fn word(self, fluents: u32, word: u32) -> Word {
         let literals = Literals::common(fluents, word, word);
         Word {
@@ -52,7 +52,7 @@ impl Names {
         }
     }
 
-    // A law as a sentence.
+    /// A law as a sentence.
     pub fn law(self, law: Law) -> Sentence {
         Sentence {
             kind: law.kind,
@@ -72,7 +72,7 @@ impl Names {
     }
 }
 
-// The name that stands at the number, or else the kind with the number.
+/// The name that stands at the number, or else the kind with the number.
 #[derive(Clone, Copy)]
 pub struct Name {
     known: &'static [&'static str],

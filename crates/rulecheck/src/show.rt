@@ -1,4 +1,4 @@
-// A book and recorded runs, for a person.
+//! A book and recorded runs, for a person.
 use crate::names::{Names, Word};
 use law_book::book::LawBook;
 use std::io;

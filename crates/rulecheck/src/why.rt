@@ -1,4 +1,4 @@
-// Why a word is no state of the book, and a step none of its steps.
+//! Why a word is no state of the book, and a step none of its steps.
 use crate::show::Report;
 use law_book::fault::Fault;
 use refusal::part::Part;

@@ -1,22 +1,23 @@
-// The judging interface of an action theory.
+//! The judging interface of an action theory.
 ghost use Rattle.std.specs.Prelude.{◌≡◌, ◌↔◌, IsTrue};
 ghost use Rattle.theory.specs.Meaning.{Meaning, Ranged};
 
-// A theory that can be asked for its sizes, its states and its steps. Every query takes any numbers.
+/// A theory that can be asked for its sizes, its states and its steps. Every query takes any numbers.
 pub trait Judging {
     // what the theory means
     ghost meaning: { Self → Meaning };
 
-    // The counts of fluents and of actions.
+    /// The counts of fluents and of actions.
     fn sizes(&self) -> (u32, u32)
         ensures fluents { result.0 ≡ (meaning self.now).fluents }
         ensures actions { result.1 ≡ (meaning self.now).actions };
 
-    // Whether the word is a state.
+    /// Whether the word is a state.
     fn is_state(&self, s: u32) -> bool
         ensures { IsTrue result ↔ (meaning self.now).State s };
 
-    // Whether the action leads from s to t.
+    /// Whether the action leads from s to t.
+    // Three numbers and no struct of them: a query takes any, so the struct would hold no fact about them.
     fn is_step(&self, s: u32, a: u32, t: u32) -> bool
         ensures { IsTrue result ↔ (meaning self.now).Step s a t };
 

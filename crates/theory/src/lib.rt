@@ -1,4 +1,4 @@
-// Action theories: what one means, the interfaces that ask it, and recorded runs held against one.
+//! Action theories: what one means, the interfaces that ask it, and recorded runs held against one.
 #![tactic(auto)]
 
 pub mod judging;

@@ -1,4 +1,4 @@
-// A recorded run, held against a theory.
+//! A recorded run, held against a theory.
 ghost use Rattle.refusal.specs.Order.{Ordered};
 ghost use Rattle.theory.specs.Trajectories.{Trajectory};
 ghost use Rattle.theory.specs.Recorded.{record_refused};
@@ -9,7 +9,8 @@ use refusal::part::Part;
 use refusal::reason::Reason;
 use refusal::refusal::Refusal;
 
-// The last state of the recorded run, or a refusal: the start is no state, or the first step that is none of the theory.
+/// The last state of the recorded run, or a refusal: the start is no state, or the first step that is none of the theory.
+// Start and steps come apart, since a struct of both would hold no fact and every call would have to make one.
 pub fn check_record<T: Judging>(theory: &T, start: u32, steps: &[Step]) -> Result<u32, Refusal>
     ensures { Ordered (record_refused (T.Judging.meaning theory.now) start steps.now) (Trajectory (T.Judging.meaning theory.now) start steps.now) result }
 {

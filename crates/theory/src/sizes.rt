@@ -1,4 +1,4 @@
-// The counts of fluents and of actions that a theory may have.
+//! The counts of fluents and of actions that a theory may have.
 ghost use Rattle.std.specs.Prelude.{◌≡◌};
 ghost use Rattle.refusal.specs.Order.{Ordered};
 ghost use Rattle.theory.specs.Sizes.{InRange, sizes_refused};
@@ -6,7 +6,7 @@ ghost use Rattle.theory.specs.Sizes.{InRange, sizes_refused};
 use refusal::reason::Reason;
 use refusal::refusal::Refusal;
 
-// 1 to 32 fluents and 1 to 64 actions.
+/// 1 to 32 fluents and 1 to 64 actions.
 #[derive(Clone, Copy, PartialEq, Eq, Debug)]
 pub struct Sizes {
     pub fluents: u32,
@@ -22,7 +22,7 @@ impl TryFrom<(u32, u32)> for Sizes {
 
     fn try_from(pair: (u32, u32)) -> Result<Sizes, Refusal> {
         let (fluents, actions) = pair;
-        if fluents < 1 || fluents > 32 || actions < 1 || actions > 64 {
+        if !(1..=32).contains(&fluents) || !(1..=64).contains(&actions) {
             return Err(Refusal::plain(Reason::WrongSizes));
         }
         Ok(Sizes { fluents, actions })

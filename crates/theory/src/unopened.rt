@@ -1,10 +1,10 @@
-// Openings that are refused.
+//! Openings that are refused.
 ghost use Rattle.std.specs.Prelude.{◌≡◌};
 
 use refusal::refusal::Refusal;
 
-// Why a theory does not open, and the tables as they were handed in.
-#[derive(Drop)]
+/// Why a theory does not open, and the tables as they were handed in.
+#[derive(Debug, Drop)]
 pub struct Unopened<T> {
     pub refusal: Refusal,
     pub tables: T,

@@ -1,10 +1,10 @@
-// A transition graph: a theory given by its states and its links.
+//! A transition graph: a theory given by its states and its links.
 ghost use Rattle.transition_graph.specs.Tables.{GoodTables};
 
 use crate::link::Link;
 use theory::sizes::Sizes;
 
-// The tables are owned, so opening a graph allocates nothing; every entry in them keeps its rule.
+/// The tables are owned, so opening a graph allocates nothing; every entry in them keeps its rule.
 #[derive(Drop)]
 pub struct TransitionGraph {
     pub(crate) sizes: Sizes,

@@ -1,4 +1,4 @@
-// A transition graph judges words and steps.
+//! A transition graph judges words and steps.
 ghost use Rattle.transition_graph.specs.Graphs.{graph_meaning, states_of, links_of};
 ghost use Rattle.transition_graph.specs.Listed.{ranged_from};
 

@@ -1,4 +1,4 @@
-// Transition graphs: action theories given by a table of states and a table of links, as bought-in modules are.
+//! Transition graphs: action theories given by a table of states and a table of links, as bought-in modules are.
 #![tactic(auto)]
 
 pub mod graph;

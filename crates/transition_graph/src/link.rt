@@ -1,6 +1,6 @@
-// The links of a transition graph.
+//! The links of a transition graph.
 
-// From one state, by an action, to another or the same.
+/// From one state, by an action, to another or the same.
 #[derive(Clone, Copy, PartialEq, Eq, Debug)]
 pub struct Link {
     pub from: u32,

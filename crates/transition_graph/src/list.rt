@@ -1,4 +1,4 @@
-// A transition graph lists where an action leads.
+//! A transition graph lists where an action leads.
 ghost use Rattle.std.specs.Prelude.{◌≡◌, min};
 ghost use Rattle.std.specs.List.{reduce};
 ghost use Rattle.transition_graph.specs.Tables.{ends_of};

@@ -1,4 +1,4 @@
-// The opening of a transition graph.
+//! The opening of a transition graph.
 ghost use Rattle.std.specs.Prelude.{◌≡◌};
 ghost use Rattle.refusal.specs.Order.{Ordered};
 ghost use Rattle.transition_graph.specs.Opening.{Opens, open_refused, Opened};
@@ -65,7 +65,7 @@ fn check(pair: (u32, u32), states: &[u32], links: &[Link]) -> Result<Sizes, Refu
 }
 
 impl TransitionGraph {
-    // The graph of these sizes, fluents first, states and links. A refusal hands both tables back.
+    /// The graph of these sizes, fluents first, states and links. A refusal hands both tables back.
     pub fn open(
         sizes: (u32, u32),
         states: Vec<u32>,

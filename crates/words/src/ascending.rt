@@ -1,10 +1,10 @@
-// Words taken upwards from a query, one after another.
+//! Words taken upwards from a query, one after another.
 ghost use Rattle.std.specs.Iterator.{at_most};
 ghost use Rattle.std.specs.Prelude.{◌≡◌, Some};
 ghost use Rattle.words.specs.Ascending.{NeverBelow, Ascends, words_from};
 
-// The answers of a query that gives the next word, not below the one that it is asked from. After each answer it is asked from
-// the word above, up to the last word.
+/// The answers of a query that gives the next word, not below the one that it is asked from. After each answer it is asked from
+/// the word above, up to the last word.
 #[derive(Drop)]
 pub struct Ascending<F> {
     query: F,
@@ -12,7 +12,7 @@ pub struct Ascending<F> {
 }
 
 impl<F: Fn(u32) -> Option<u32>> Ascending<F> {
-    // The query is asked from the least word first.
+    /// The query is asked from the least word first.
     pub fn new(query: F, least: u32) -> Self
         ensures query { result.query ≡ query }
         ensures from { result.from ≡ Some least }

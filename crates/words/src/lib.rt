@@ -1,4 +1,4 @@
-// Words, literals and sets of literals.
+//! Words, literals and sets of literals.
 #![tactic(auto)]
 
 pub mod ascending;

@@ -1,4 +1,4 @@
-// A literal: a fluent and its sign.
+//! A literal: a fluent and its sign.
 ghost use Rattle.std.specs.Prelude.{◌↔◌, IsTrue};
 ghost use Rattle.words.specs.Words.{Value};
 
@@ -11,7 +11,7 @@ pub struct Literal {
 }
 
 impl Literal {
-    // Whether the literal is true in the word; a fluent that the word has no bit for is false in it.
+    /// Whether the literal is true in the word; a fluent that the word has no bit for is false in it.
     pub fn holds_in(self, word: u32) -> bool
         ensures { IsTrue result ↔ Value word self.fluent self.sign }
     {

@@ -1,4 +1,4 @@
-// Fences over theories, and their bans.
+//! Fences over theories, and their bans.
 use crate::drain;
 use crate::short::body;
 use crate::tests::opened;

@@ -1,4 +1,4 @@
-// Transition graphs opened, judged and listed.
+//! Transition graphs opened, judged and listed.
 use crate::latch;
 use crate::tests::numbers;
 use refusal::part::Part;
@@ -26,9 +26,8 @@ fn graph(
     states: &[u32],
     links: &[Link],
 ) -> Result<TransitionGraph, Fail> {
-    TransitionGraph::open(sizes, states.to_vec(heap)?, links.to_vec(heap)?).map_err(|_| Fail::new(
-        "the graph does not open",
-    ))
+    let graph = TransitionGraph::open(sizes, states.to_vec(heap)?, links.to_vec(heap)?)?;
+    Ok(graph)
 }
 
 // The numbers of the refusal; both tables must come back as they were.

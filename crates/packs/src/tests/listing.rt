@@ -1,4 +1,4 @@
-// Results of actions, listed.
+//! Results of actions, listed.
 use crate::short::{body, off, on};
 use crate::tests::opened;
 use crate::{drain, twin};

@@ -1,5 +1,5 @@
 use Rattle.std.proofs.Common.{sym, arith}
-use Rattle.words.proofs.Bit.{bit_last, bit_past}
+use Rattle.words.proofs.Bit.{bit_past}
 use Rattle.words.proofs.word.bit_at.Goals as goal
 
 pub returns-else-fluent-lt32 : goal.returns-else-fluent-lt32
