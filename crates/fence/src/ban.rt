@@ -13,9 +13,10 @@ pub struct Ban {
 
 impl Ban {
     // Whether the ban keeps the rules over a theory of these sizes.
-    pub(crate) fn is_good(self, fluents: u32, actions: u32) -> bool
-        ensures { IsTrue result ↔ GoodBan fluents actions self }
+    pub(crate) fn is_good(self, sizes: (u32, u32)) -> bool
+        ensures { IsTrue result ↔ GoodBan sizes.0 sizes.1 self }
     {
+        let (fluents, actions) = sizes;
         self.action < actions && self.body.is_body(fluents)
     }
 

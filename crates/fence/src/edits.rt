@@ -55,8 +55,7 @@ impl<W: Judging> Fence<W> {
         if self.bans.is_full() {
             return Err(Refusal::plain(Reason::TableLength));
         }
-        let (fluents, actions) = self.below.sizes();
-        if !ban.is_good(fluents, actions) {
+        if !ban.is_good(self.below.sizes()) {
             return Err(Refusal::at(Reason::BadEntry, Part::Ban, 0));
         }
         self.bans.push(ban);

@@ -6,7 +6,7 @@ use arrayvec::ArrayVec;
 const MOST_BANS: usize = 16;
 
 /// The theory below, held by value, and the bans.
-#[derive(Drop)]
+#[derive(Debug, Drop)]
 pub struct Fence<W> {
     pub(crate) below: W,
     // Sixteen places in the fence itself, so one more ban never allocates.

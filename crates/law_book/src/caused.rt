@@ -11,6 +11,7 @@ use words::literals::Literals;
 impl LawBook {
     /// The literals caused between s and t by the action: the least set that contains its direct effects and the
     /// literals common to s and t and is closed under the static laws.
+    // Three numbers, as the interface has a step (`Judging::is_step`).
     pub fn caused(&self, s: u32, a: u32, t: u32) -> Literals
         ensures value { (f : ℕ) (v : Bool) → Member result f v ↔ Caused self.now.sizes.fluents (laws_of self.now) s a t f v }
         ensures least { CausedIsLeast }
@@ -24,6 +25,8 @@ impl LawBook {
     fn with_effects(&self, s: u32, a: u32, set: Literals) -> Literals
         ensures { (f : ℕ) (v : Bool) → Member result f v ↔ Effect (laws_of self.now) s a f v ⊎ Member set f v }
     {
+        // A loop of its own, and not one with that of `pass`: here each law is held against s, there against the set
+        // that grows.
         let mut grown = set;
         for law in &self.laws {
             if law.takes_effect(s, a) {

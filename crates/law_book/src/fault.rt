@@ -1,5 +1,5 @@
 //! Why a book has no such step.
-ghost use Rattle.std.specs.Prelude.{Some};
+ghost use Rattle.std.specs.Prelude.{◌≡◌, Some};
 ghost use Rattle.law_book.specs.Faults.{fault_sentence};
 
 use std::fmt;
@@ -15,18 +15,26 @@ pub enum Fault {
     Uncaused,
 }
 
-// The fault in words, for a person.
-impl fmt::Display for Fault {
-    ghost output = { λ fault. Some (fault_sentence fault) };
-
-    fn fmt<W: fmt::Write>(&self, f: &mut fmt::Formatter<W>) -> fmt::Result {
-        f.write_str(match self {
+impl Fault {
+    /// The fault in words, for a person.
+    pub fn sentence(self) -> &'static str
+        ensures { result.now ≡ fault_sentence self }
+    {
+        match self {
             Fault::FromNotAState => "the step begins in a word that is not a state",
             Fault::NoSuchAction => "the book has no such action",
             Fault::MayNotRun => "the action may not run there",
             Fault::ToNotAState => "the step ends in a word that is not a state",
             Fault::Contrary => "something caused is not so after the step",
             Fault::Uncaused => "something is so after the step that nothing causes",
-        })
+        }
+    }
+}
+
+impl fmt::Display for Fault {
+    ghost output = { λ x. Some (fault_sentence x) };
+
+    fn fmt<W: fmt::Write>(&self, f: &mut fmt::Formatter<W>) -> fmt::Result {
+        f.write_str(self.sentence())
     }
 }

@@ -11,7 +11,7 @@ impl Judging for LawBook {
     ghost ranged = { Prim.search rules };
 
     fn sizes(&self) -> (u32, u32) {
-        (self.sizes.fluents, self.sizes.actions)
+        self.sizes.into()
     }
 
     fn is_state(&self, s: u32) -> bool {

@@ -6,6 +6,7 @@ use theory::sizes::Sizes;
 use words::literal::Literal;
 use words::literals::Literals;
 
+/// The kinds of laws, with their numbers.
 #[derive(Clone, Copy, PartialEq, Eq, Debug)]
 pub enum Kind {
     Static = 1,
@@ -23,6 +24,8 @@ impl Kind {
 }
 
 /// A record of the table. A static law does not use its action, nor an executability law its head.
+// A record with a kind and no enum with fields: a table of laws is written so, and a book refuses a record in which an
+// unused field has another value than its fixed one.
 #[derive(Clone, Copy, PartialEq, Eq, Debug)]
 pub struct Law {
     pub kind: Kind,

@@ -1,6 +1,7 @@
 //! The opening of a law book.
 ghost use Rattle.std.specs.Prelude.{◌≡◌};
 ghost use Rattle.refusal.specs.Order.{Ordered};
+ghost use Rattle.theory.specs.Pairs.{IsPair};
 ghost use Rattle.law_book.specs.Laws.{Good};
 ghost use Rattle.law_book.specs.Opening.{Opens, open_refused, Opened};
 
@@ -25,10 +26,10 @@ impl Rule<Law> for Sizes {
     }
 }
 
-// The sizes of what opens. What does not is refused by the first reason against it: its sizes, the table's length, its first
-// bad law.
+// The sizes of what opens. What does not is refused by the first reason against it: its sizes, the table's length,
+// its first bad law.
 fn check(pair: (u32, u32), laws: &[Law]) -> Result<Sizes, Refusal>
-    ensures { Ordered (open_refused pair.0 pair.1 laws.now) (λ z. Opens z.fluents z.actions laws.now × (z.fluents ≡ pair.0) × (z.actions ≡ pair.1)) result }
+    ensures { Ordered (open_refused pair.0 pair.1 laws.now) (λ z. Opens z.fluents z.actions laws.now × IsPair z pair) result }
 {
     let sizes = Sizes::try_from(pair)?;
     if laws.len() > MOST_LAWS {
@@ -40,7 +41,8 @@ fn check(pair: (u32, u32), laws: &[Law]) -> Result<Sizes, Refusal>
 
 impl LawBook {
     /// The book of these sizes, fluents first, and laws. A refusal hands the table back.
-    // Not one function with the opening of a graph: what both share, sizes and entries, is called in `check`.
+    // Not one function with the opening of a graph: what both share, sizes and entries, is called in `check`, and one
+    // opening over a type of tables would need a trait for these three lines.
     pub fn open(sizes: (u32, u32), laws: Vec<Law>) -> Result<LawBook, Unopened<Vec<Law>>>
         ensures { Opened sizes.0 sizes.1 laws result }
     {

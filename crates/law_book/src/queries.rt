@@ -30,6 +30,7 @@ impl LawBook {
     }
 
     /// Why (s, a, t) is no step, or nothing where it is one.
+    // Three numbers, as the interface has a step (`Judging::is_step`).
     pub fn fault(&self, s: u32, a: u32, t: u32) -> Option<Fault>
         ensures { Explained self.now.sizes.fluents self.now.sizes.actions (laws_of self.now) s a t result }
     {

@@ -8,7 +8,8 @@ use law_book::law::Law;
 /// The counts of fluents and of actions.
 pub const SIZES: (u32, u32) = (3, 3);
 
-// The fluents. Numbers and no enum, as laws and queries take any number: an enum would be turned into one at each use.
+// The fluents. Fluents and actions are numbers and no enums: laws, links and queries take any number, so an enum would
+// be turned into one at each use.
 pub const COLD: u32 = 0;
 
 pub const FULL: u32 = 1;
@@ -22,8 +23,8 @@ pub const RELEASE: u32 = 1;
 
 pub const DISCHARGE: u32 = 2;
 
-/// The drain is on if the pack is cold, and if it is full. Thaw, release and discharge each make their fluent false, and
-/// may run where it is true.
+/// The drain is on if the pack is cold, and if it is full. Thaw, release and discharge each make their fluent false,
+/// and may run where it is true.
 pub fn laws() -> [Law; 8]
     ensures { result ≡ drain_laws }
 {

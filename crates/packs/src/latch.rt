@@ -7,7 +7,8 @@ use transition_graph::link::Link;
 /// The counts of fluents and of actions.
 pub const SIZES: (u32, u32) = (2, 4);
 
-// The fluents. Numbers and no enum, as laws and queries take any number: an enum would be turned into one at each use.
+// The fluents. Fluents and actions are numbers and no enums: laws, links and queries take any number, so an enum would
+// be turned into one at each use.
 pub const SHUT: u32 = 0;
 
 pub const LOCKED: u32 = 1;

@@ -12,8 +12,8 @@ pub(crate) fn on(fluent: u32) -> Literal
     Literal { fluent, sign: true }
 }
 
-// The literal that the fluent is false. Not one function with `on`: `off(COLD)` says what `literal(COLD, false)` leaves to the
-// reader.
+// The literal that the fluent is false. Not one function with `on`: `off(COLD)` says what `literal(COLD, false)`
+// leaves to the reader.
 pub(crate) fn off(fluent: u32) -> Literal
     ensures { result ≡ off_of fluent }
 {

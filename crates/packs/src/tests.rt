@@ -15,6 +15,7 @@ use std::test::Fail;
 use theory::judging::Judging;
 use theory::recorded::check_record;
 use theory::step::Step;
+use theory::unopened::Unopened;
 
 // The book of the laws, which must open.
 fn opened(heap: Global, sizes: (u32, u32), laws: &[Law]) -> Result<LawBook, Fail> {
@@ -30,19 +31,23 @@ fn numbers(refusal: Refusal) -> (u32, u32, usize) {
     )
 }
 
+// What a refused opening hands back.
+fn unopened<T: Drop, U: Drop>(opened: Result<T, Unopened<U>>) -> Result<Unopened<U>, Fail> {
+    match opened {
+        Ok(_) => Err(Fail::new("it opens")),
+        Err(no) => Ok(no),
+    }
+}
+
 // The numbers of the refusal, and how many laws came back.
 fn refused(
     heap: Global,
     sizes: (u32, u32),
     laws: &[Law],
 ) -> Result<(u32, u32, usize, usize), Fail> {
-    match LawBook::open(sizes, laws.to_vec(heap)?) {
-        Ok(_) => Err(Fail::new("the book opens")),
-        Err(no) => {
-            let (number, part, place) = numbers(no.refusal);
-            Ok((number, part, place, no.tables.len()))
-        }
-    }
+    let no = unopened(LawBook::open(sizes, laws.to_vec(heap)?))?;
+    let (number, part, place) = numbers(no.refusal);
+    Ok((number, part, place, no.tables.len()))
 }
 
 // The last state of a run from 7 against the laws; a refusal of either call comes up by `?`.
@@ -52,27 +57,28 @@ fn last_state(laws: Vec<Law>, steps: &[Step]) -> Result<u32, Refusal> {
     Ok(last)
 }
 
-// The words below 16 to which the action leads, as bits.
-fn results(book: &LawBook, s: u32, a: u32) -> u32 {
+// The words below 16 that pass the test, as bits.
+fn bits<F: Fn(u32) -> bool>(test: F) -> u32
+    requires { F.IsAlwaysCallable test }
+{
     let mut found = 0;
-    for t in 0..16u32 {
-        if book.is_step(s, a, t) {
-            found |= 1 << t;
+    for word in 0..16u32 {
+        if test(word) {
+            found |= 1 << word;
         }
     }
     found
 }
 
+// The words below 16 to which the action leads, as bits.
+fn results(book: &LawBook, s: u32, a: u32) -> u32 {
+    bits(|t| book.is_step(s, a, t))
+}
+
 #[test]
 fn drain_has_five_states(rt: HostRuntime) -> Result<(), Fail> {
     let book = opened(rt.alloc(), drain::SIZES, &drain::laws())?;
-    let mut states = 0;
-    for s in 0..16u32 {
-        if book.is_state(s) {
-            states |= 1 << s;
-        }
-    }
-    assert_eq!(rt; states, 0b1111_0001);
+    assert_eq!(rt; bits(|s| book.is_state(s)), 0b1111_0001);
     assert_eq!(rt; book.sizes(), (3, 3));
     Ok(())
 }

@@ -6,7 +6,8 @@ ghost use Rattle.refusal.specs.Sentences.{word_of};
 use std::fmt;
 
 /// One case for each part, with its number.
-// `NoPart` is a case and no `Option` around the others: a refusal is a number, a part and a place, and 0 is a part's number.
+// `NoPart` is a case and no `Option` around the others: a refusal is a number, a part and a place, and 0 is a part's
+// number.
 #[derive(Clone, Copy, PartialEq, Eq, Debug)]
 pub enum Part {
     NoPart = 0,
@@ -26,14 +27,12 @@ impl Part {
     {
         self as u32
     }
-}
 
-// The part in a word, for a person.
-impl fmt::Display for Part {
-    ghost output = { λ part. Some (word_of part) };
-
-    fn fmt<W: fmt::Write>(&self, f: &mut fmt::Formatter<W>) -> fmt::Result {
-        f.write_str(match self {
+    /// The part in a word, for a person.
+    pub fn word(self) -> &'static str
+        ensures { result.now ≡ word_of self }
+    {
+        match self {
             Part::NoPart => "no part",
             Part::Law => "law",
             Part::State => "state",
@@ -42,6 +41,14 @@ impl fmt::Display for Part {
             Part::Formula => "formula",
             Part::Node => "node",
             Part::Step => "step",
-        })
+        }
+    }
+}
+
+impl fmt::Display for Part {
+    ghost output = { λ x. Some (word_of x) };
+
+    fn fmt<W: fmt::Write>(&self, f: &mut fmt::Formatter<W>) -> fmt::Result {
+        f.write_str(self.word())
     }
 }

@@ -36,14 +36,12 @@ impl Reason {
     {
         self as u32
     }
-}
 
-// The reason in words, for a person.
-impl fmt::Display for Reason {
-    ghost output = { λ reason. Some (sentence_of reason) };
-
-    fn fmt<W: fmt::Write>(&self, f: &mut fmt::Formatter<W>) -> fmt::Result {
-        f.write_str(match self {
+    /// The reason in words, for a person.
+    pub fn sentence(self) -> &'static str
+        ensures { result.now ≡ sentence_of self }
+    {
+        match self {
             Reason::VacantPlace => "no program has been admitted to this place",
             Reason::UnstartedRun => "the run has not been started",
             Reason::WrongSizes => {
@@ -65,6 +63,14 @@ impl fmt::Display for Reason {
             Reason::NoChoiceLeft => "the claim has no choice left for this node",
             Reason::Strayed => "the run strays from the program at this node",
             Reason::LeftOver => "the program has ended, but steps or choices are left over",
-        })
+        }
+    }
+}
+
+impl fmt::Display for Reason {
+    ghost output = { λ x. Some (sentence_of x) };
+
+    fn fmt<W: fmt::Write>(&self, f: &mut fmt::Formatter<W>) -> fmt::Result {
+        f.write_str(self.sentence())
     }
 }

@@ -39,13 +39,13 @@ const RELEASED_IN_VAIN: [Step; 1] = [Step {
     to: 7,
 }];
 
-fn run(rt: &HostRuntime) -> anyhow::Result<()> {
+fn main(rt: HostRuntime) -> anyhow::Result<()> {
     let laws = drain::laws().to_vec(rt.alloc())?;
     let Ok(book) = LawBook::open(drain::SIZES, laws) else {
         return Err(anyhow!("the book Drain does not open"));
     };
     let report = Report {
-        rt,
+        rt: &rt,
         names: names::DRAIN,
         book: &book,
     };
@@ -54,8 +54,4 @@ fn run(rt: &HostRuntime) -> anyhow::Result<()> {
     report.show_run(2, 7, &RELEASED_EARLY)?;
     report.show_run(3, 7, &RELEASED_IN_VAIN)?;
     Ok(())
-}
-
-fn main(rt: HostRuntime) -> anyhow::Result<()> {
-    run(&rt)
 }

@@ -11,6 +11,7 @@ pub struct Names {
     actions: &'static [&'static str],
 }
 
+// In the order of the constants of `packs::drain`.
 pub const DRAIN: Names = Names {
     fluents: &["cold", "full", "drain"],
     actions: &["thaw", "release", "discharge"],
@@ -83,7 +84,7 @@ pub struct Name {
 impl fmt::Display for Name {
     fn fmt<W: fmt::Write>(&self, f: &mut fmt::Formatter<W>) -> fmt::Result {
         match self.known.get(self.number as usize) {
-            Some(name) => write!(f, "{name}"),
+            Some(name) => f.write_str(name),
             None => write!(f, "{} {}", self.kind, self.number),
         }
     }
@@ -111,6 +112,7 @@ struct Conditions {
 
 impl fmt::Display for Conditions {
     fn fmt<W: fmt::Write>(&self, f: &mut fmt::Formatter<W>) -> fmt::Result {
+        // The same two loops stand in `show_difference`: an iterator over literals would be a type for two lines.
         let mut before = self.lead;
         for fluent in 0..32u32 {
             for sign in [true, false] {

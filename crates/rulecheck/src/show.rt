@@ -9,13 +9,13 @@ use words::word::first_fluents;
 
 // A book under the names of its fluents and actions, and where it is shown.
 #[derive(Clone, Copy)]
-pub(crate) struct Report<'a> {
-    pub(crate) rt: &'a HostRuntime,
+pub(crate) struct Report<'a, R> {
+    pub(crate) rt: &'a R,
     pub(crate) names: Names,
     pub(crate) book: &'a LawBook,
 }
 
-impl Report<'_> {
+impl<R: Print> Report<'_, R> {
     // The sizes, the names, the laws and the states of the book.
     pub(crate) fn show_book(&self, title: &str) -> io::Result<()> {
         let (fluents, actions) = self.book.sizes();

@@ -9,7 +9,7 @@ use theory::step::Step;
 use words::literal::Literal;
 use words::word::is_below;
 
-impl Report<'_> {
+impl<R: Print> Report<'_, R> {
     // What is wrong with a recorded run: its start, or the step that the refusal names.
     pub(crate) fn show_why(&self, start: u32, steps: &[Step], refusal: Refusal) -> io::Result<()> {
         let Part::Step = refusal.part else {
@@ -18,7 +18,7 @@ impl Report<'_> {
         let Some(step) = steps.get(refusal.place) else {
             return Ok(());
         };
-        let before = steps.iter().take(refusal.place).last();
+        let before = steps[..refusal.place].last();
         let s = before.map_or(start, |step| step.to);
         self.show_fault(s, *step)
     }

@@ -8,6 +8,7 @@ pub trait Judging {
     ghost meaning: { Self → Meaning };
 
     /// The counts of fluents and of actions.
+    // A pair and no `Sizes`: the interface answers both numbers, which any caller can take apart.
     fn sizes(&self) -> (u32, u32)
         ensures fluents { result.0 ≡ (meaning self.now).fluents }
         ensures actions { result.1 ≡ (meaning self.now).actions };
@@ -17,7 +18,8 @@ pub trait Judging {
         ensures { IsTrue result ↔ (meaning self.now).State s };
 
     /// Whether the action leads from s to t.
-    // Three numbers and no struct of them: a query takes any, so the struct would hold no fact about them.
+    // Three numbers and no struct of them: a query takes any, so that the struct would hold no fact (a `Link` is the
+    // entry of a table, which keeps rules).
     fn is_step(&self, s: u32, a: u32, t: u32) -> bool
         ensures { IsTrue result ↔ (meaning self.now).Step s a t };
 

@@ -1,7 +1,5 @@
 //! The counts of fluents and of actions that a theory may have.
-ghost use Rattle.std.specs.Prelude.{◌≡◌};
-ghost use Rattle.refusal.specs.Order.{Ordered};
-ghost use Rattle.theory.specs.Sizes.{InRange, sizes_refused};
+ghost use Rattle.theory.specs.Sizes.{InRange};
 
 use refusal::reason::Reason;
 use refusal::refusal::Refusal;
@@ -16,9 +14,13 @@ pub struct Sizes {
 
 // From the pair of both counts, fluents first. Counts that are out of range are refused.
 impl TryFrom<(u32, u32)> for Sizes {
+    ghost use Rattle.refusal.specs.Order.{Ordered};
+    ghost use Rattle.theory.specs.Sizes.{sizes_refused};
+    ghost use Rattle.theory.specs.Pairs.{IsPair};
+
     type Error = Refusal;
 
-    ghost try_from_gives = { λ pair r. Ordered (sizes_refused pair.0 pair.1) (λ z. (z.fluents ≡ pair.0) × (z.actions ≡ pair.1)) r };
+    ghost try_from_gives = { λ pair r. Ordered (sizes_refused pair.0 pair.1) (λ z. IsPair z pair) r };
 
     fn try_from(pair: (u32, u32)) -> Result<Sizes, Refusal> {
         let (fluents, actions) = pair;
@@ -26,5 +28,16 @@ impl TryFrom<(u32, u32)> for Sizes {
             return Err(Refusal::plain(Reason::WrongSizes));
         }
         Ok(Sizes { fluents, actions })
+    }
+}
+
+/// The pair of both counts, fluents first.
+impl From<Sizes> for (u32, u32) {
+    ghost use Rattle.theory.specs.Pairs.{IsPair};
+
+    ghost from_gives = { λ z pair. IsPair z pair };
+
+    fn from(sizes: Sizes) -> (u32, u32) {
+        (sizes.fluents, sizes.actions)
     }
 }

@@ -6,9 +6,9 @@ use crate::judging::Judging;
 use words::ascending::Ascending;
 use words::turned::next_turned;
 
-/// The smallest t, not below the least word, for which (s, a, t) is a step that turns no fluent but those of the mask.
-/// Only words that differ from s within the mask are held against the theory: 2 to the power k of them at most, where the
-/// mask has k fluents.
+/// The smallest t, not below the least word, for which (s, a, t) is a step that turns no fluent but those of the
+/// mask. Only words that differ from s within the mask are held against the theory: 2 to the power k of them at most,
+/// where the mask has k fluents.
 pub fn next_turning<T: Judging>(theory: &T, s: u32, a: u32, mask: u32, least: u32) -> Option<u32>
     ensures { SmallestFrom least (Turning (T.Judging.meaning theory.now) s a mask) result }
 {

@@ -1,12 +1,20 @@
 -- The smallest of the words to which links lead.
-use Rattle.std.proofs.Common.{◌≡◌, ℕ, zero, suc, ◌<◌, ◌≤◌, min, Bool, true, false, cond, ◌⊎◌, List, [], ◌∷◌, map, length, get_or, filter, fold, All, Contains, ap, subst, inl, inr, ⊎_elim, refl, arith}
+use Rattle.std.proofs.Common.{◌≡◌, ℕ, zero, suc, ◌<◌, ◌≤◌, min, Bool, true, false, ◌&&◌, ◌==◌, nat_le, cond, ◌⊎◌, List, [], ◌∷◌, map, length, get_or, filter, fold, All, Contains, ap, subst, inl, inr, ⊎_elim, refl, arith}
 use Rattle.std.specs.List.{reduce}
 use Rattle.std.proofs.lemmas.Bool.{cases_lt}
 use Rattle.std.proofs.lemmas.Bool.Decides.{nat_tests}
 use Rattle.std.proofs.lemmas.List.Elements.{All-map, All-filter, All-contains, All-contains_itself, Contains-append_right, filter_passes}
 use Rattle.words.specs.Smallest.{SmallestFrom}
 use Rattle.transition_graph.specs.declared.link.Link.{Link}
-use Rattle.transition_graph.specs.Tables.{link_of, is_leading, ends_of}
+use Rattle.transition_graph.specs.Tables.{link_of}
+
+-- whether the link leads from s by a to a word that is not below the least
+abbrev pub is_leading : ℕ → ℕ → ℕ → Link → Bool
+is_leading s a least link = link.from == s && (link.action == a && nat_le least link.to)
+
+-- the words, not below the least, to which the links lead from s by a, in the order of the links
+abbrev pub ends_of : ℕ → ℕ → ℕ → List Link → List ℕ
+ends_of s a least links = map (λ link. link.to) (filter (is_leading s a least) links)
 
 -- an element of a list is the first, or one of the rest
 cons_cases : {X : Type 0} (x y : X) (xs : List X) → Contains (x ∷ xs) y → (x ≡ y) ⊎ Contains xs y

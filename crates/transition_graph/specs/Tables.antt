@@ -1,5 +1,5 @@
 -- The tables of a transition graph, and their meaning.
-use Rattle.std.specs.Prelude.{ℕ, ◌^◌, ◌<◌, Bool, ◌&&◌, ◌==◌, nat_le, List, map, filter, All, Contains}
+use Rattle.std.specs.Prelude.{ℕ, ◌^◌, ◌<◌, List, All, Contains}
 use Rattle.theory.specs.Meaning.{Meaning}
 use Rattle.transition_graph.specs.declared.link.Link.{Link}
 
@@ -21,14 +21,6 @@ pub record GoodTables (fluents actions : ℕ) (states : List ℕ) (links : List 
 -- the link from s by a to t
 abbrev pub link_of : ℕ → ℕ → ℕ → Link
 link_of s a t = record { from = s; action = a; to = t }
-
--- whether the link leads from s by a to a word that is not below the least
-abbrev pub is_leading : ℕ → ℕ → ℕ → Link → Bool
-is_leading s a least link = link.from == s && (link.action == a && nat_le least link.to)
-
--- the words, not below the least, to which the links lead from s by a, in the order of the links
-abbrev pub ends_of : ℕ → ℕ → ℕ → List Link → List ℕ
-ends_of s a least links = map (λ link. link.to) (filter (is_leading s a least) links)
 
 -- the meaning of the tables: the states are the entries of the one, the steps the links of the other
 abbrev pub meaning_of : ℕ → ℕ → List ℕ → List Link → Meaning

@@ -4,8 +4,9 @@ ghost use Rattle.transition_graph.specs.Tables.{GoodTables};
 use crate::link::Link;
 use theory::sizes::Sizes;
 
-/// The tables are owned, so opening a graph allocates nothing; every entry in them keeps its rule.
-#[derive(Drop)]
+/// The sizes and both tables. The tables are owned, so opening a graph allocates nothing; every entry in them keeps
+/// its rule.
+#[derive(Debug, Drop)]
 pub struct TransitionGraph {
     pub(crate) sizes: Sizes,
     pub(crate) states: Vec<u32>,

@@ -12,7 +12,7 @@ impl Judging for TransitionGraph {
     ghost ranged = { λ g. ranged_from g.sizes.fluents g.sizes.actions (states_of g) (links_of g) g.sizes.in_range g.good };
 
     fn sizes(&self) -> (u32, u32) {
-        (self.sizes.fluents, self.sizes.actions)
+        self.sizes.into()
     }
 
     fn is_state(&self, s: u32) -> bool {

@@ -1,6 +1,7 @@
 //! The opening of a transition graph.
 ghost use Rattle.std.specs.Prelude.{◌≡◌};
 ghost use Rattle.refusal.specs.Order.{Ordered};
+ghost use Rattle.theory.specs.Pairs.{IsPair};
 ghost use Rattle.transition_graph.specs.Opening.{Opens, open_refused, Opened};
 ghost use Rattle.transition_graph.specs.Tables.{GoodState, GoodLink};
 
@@ -50,10 +51,10 @@ impl Rule<Link> for LinkRule<'_> {
     }
 }
 
-// The sizes of what opens. What does not is refused by the first reason against it: its sizes, a table's length, its first
-// bad state, its first bad link.
+// The sizes of what opens. What does not is refused by the first reason against it: its sizes, a table's length, its
+// first bad state, its first bad link.
 fn check(pair: (u32, u32), states: &[u32], links: &[Link]) -> Result<Sizes, Refusal>
-    ensures { Ordered (open_refused pair.0 pair.1 states.now links.now) (λ z. Opens z.fluents z.actions states.now links.now × (z.fluents ≡ pair.0) × (z.actions ≡ pair.1)) result }
+    ensures { Ordered (open_refused pair.0 pair.1 states.now links.now) (λ z. Opens z.fluents z.actions states.now links.now × IsPair z pair) result }
 {
     let sizes = Sizes::try_from(pair)?;
     if states.is_empty() || states.len() > MOST_STATES || links.len() > MOST_LINKS {
@@ -66,6 +67,8 @@ fn check(pair: (u32, u32), states: &[u32], links: &[Link]) -> Result<Sizes, Refu
 
 impl TransitionGraph {
     /// The graph of these sizes, fluents first, states and links. A refusal hands both tables back.
+    // Not one function with the opening of a book: what both share, sizes and entries, is called in `check`, and one
+    // opening over a type of tables would need a trait for these three lines.
     pub fn open(
         sizes: (u32, u32),
         states: Vec<u32>,

@@ -3,8 +3,10 @@ ghost use Rattle.std.specs.Iterator.{at_most};
 ghost use Rattle.std.specs.Prelude.{◌≡◌, Some};
 ghost use Rattle.words.specs.Ascending.{NeverBelow, Ascends, words_from};
 
-/// The answers of a query that gives the next word, not below the one that it is asked from. After each answer it is asked from
-/// the word above, up to the last word.
+/// The answers of a query that gives the next word, not below the one that it is asked from. After each answer it is
+/// asked from the word above, up to the last word. A query that may answer below the word that it is asked from has no
+/// such run: `next` asks that it does not.
+// A type of its own, and not `successors`: that has no end by its contract, and `collect` and `find` ask for one.
 #[derive(Drop)]
 pub struct Ascending<F> {
     query: F,

@@ -4,6 +4,7 @@ ghost use Rattle.words.specs.Words.{Value};
 
 use crate::word::bit_at;
 
+/// That the fluent is true, or that it is false where the sign is.
 #[derive(Clone, Copy, PartialEq, Eq, Debug)]
 pub struct Literal {
     pub fluent: u32,

@@ -5,8 +5,8 @@ ghost use Rattle.words.specs.Words.{bit, Member, Holds, Within, Joined, Common, 
 use crate::literal::Literal;
 use crate::word::{bit_at, covers, first_fluents, is_below};
 
-// Two masks and no list of literals: a law has its body so, and a set of literals is then two words.
 /// The fluents whose literal of sign true is in the set, and those whose literal of sign false is.
+// Two masks and no list of literals: a law has its body so, and a set of literals is then two words.
 #[derive(Clone, Copy, PartialEq, Eq, Debug, Default)]
 pub struct Literals {
     pub truths: u32,
@@ -82,7 +82,8 @@ impl Literals {
         (self.truths & !word) | (self.falses & word)
     }
 
-    /// Whether the set can be a body over these fluents: both masks are within them, and have at most eight ones together.
+    /// Whether the set can be a body over these fluents: both masks are within them, and have at most eight ones
+    /// together.
     pub fn is_body(self, fluents: u32) -> bool
         ensures { IsTrue result ↔ Body fluents self }
     {

@@ -2,12 +2,13 @@
 ghost use Rattle.words.specs.Smallest.{SmallestFrom};
 ghost use Rattle.words.specs.Words.{Turned};
 
-/// The smallest word, not below the least, that differs from s in no fluent but those of the mask. A word that strays in
-/// another fluent is left by a jump past all words that share its bits from the highest such fluent on.
+/// The smallest word, not below the least, that differs from s in no fluent but those of the mask. A word that strays
+/// in another fluent is left by a jump past all words that share its bits from the highest such fluent on.
 pub fn next_turned(s: u32, mask: u32, least: u32) -> Option<u32>
     ensures { SmallestFrom least (Turned s mask) result }
 {
-    // A `while`: each round jumps to a word that the one before decides, which no range and no adapter does.
+    // A `while`: the proof of `find` over the library's `successors` does not close, since `find` asks for an end, and
+    // `successors` has none by its contract.
     let mut next = u64::from(least);
     while next <= u64::from(u32::MAX) {
         let t = next as u32;

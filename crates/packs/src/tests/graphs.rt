@@ -1,6 +1,6 @@
 //! Transition graphs opened, judged and listed.
 use crate::latch;
-use crate::tests::numbers;
+use crate::tests::{numbers, unopened};
 use refusal::part::Part;
 use refusal::reason::Reason;
 use refusal::refusal::Refusal;
@@ -37,16 +37,12 @@ fn refused(
     states: &[u32],
     links: &[Link],
 ) -> Result<(u32, u32, usize), Fail> {
-    match TransitionGraph::open(sizes, states.to_vec(heap)?, links.to_vec(heap)?) {
-        Ok(_) => Err(Fail::new("the graph opens")),
-        Err(no) => {
-            let (states_back, links_back) = (&no.tables.0, &no.tables.1);
-            if states_back.len() != states.len() || links_back.len() != links.len() {
-                return Err(Fail::new("the tables do not come back"));
-            }
-            Ok(numbers(no.refusal))
-        }
+    let no = unopened(TransitionGraph::open(sizes, states.to_vec(heap)?, links.to_vec(heap)?))?;
+    let (states_back, links_back) = (&no.tables.0, &no.tables.1);
+    if states_back.len() != states.len() || links_back.len() != links.len() {
+        return Err(Fail::new("the tables do not come back"));
     }
+    Ok(numbers(no.refusal))
 }
 
 #[test]
