@@ -25,8 +25,9 @@ impl LawBook {
     fn with_effects(&self, s: u32, a: u32, set: Literals) -> Literals
         ensures { (f : ℕ) (v : Bool) → Member result f v ↔ Effect (laws_of self.now) s a f v ⊎ Member set f v }
     {
-        // A loop of its own, and not one with that of `pass`: here each law is held against s, there against the set
-        // that grows.
+        // A loop and no `fold`: the proof does not close, since `with` says what its result holds and not which value
+        // it is. And not one loop with that of `pass`: here each law is held against s, there against the set that
+        // grows.
         let mut grown = set;
         for law in &self.laws {
             if law.takes_effect(s, a) {
@@ -56,6 +57,7 @@ impl LawBook {
         ensures sound { (f : ℕ) (v : Bool) → Member result f v → Least (laws_of self.now) (Member set) f v }
         ensures closed { Within result set → Closed (laws_of self.now) (Member set) }
     {
+        // A loop of its own, as `with_effects` says.
         let mut grown = set;
         for law in &self.laws {
             if law.fires(grown) {

@@ -17,6 +17,7 @@ pub enum Fault {
 
 impl Fault {
     /// The fault in words, for a person.
+    // A function beside `Display`, since it cannot fail.
     pub fn sentence(self) -> &'static str
         ensures { result.now ≡ fault_sentence self }
     {
@@ -31,6 +32,7 @@ impl Fault {
     }
 }
 
+// By hand: the derive of `thiserror` promises no text.
 impl fmt::Display for Fault {
     ghost output = { λ x. Some (fault_sentence x) };
 

@@ -16,6 +16,7 @@ pub enum Kind {
 
 impl Kind {
     /// The number of the kind, 1 to 3.
+    // A method and no `From`: `u32::from` would not say which number it is.
     pub fn number(self) -> u32
         ensures { result ≡ kind_number self }
     {

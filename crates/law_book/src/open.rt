@@ -41,8 +41,9 @@ fn check(pair: (u32, u32), laws: &[Law]) -> Result<Sizes, Refusal>
 
 impl LawBook {
     /// The book of these sizes, fluents first, and laws. A refusal hands the table back.
-    // Not one function with the opening of a graph: what both share, sizes and entries, is called in `check`, and one
-    // opening over a type of tables would need a trait for these three lines.
+    // A pair and no `Sizes`: the numbers come from outside, and `check` refuses those out of range. Not one function
+    // with the opening of a graph: what both share, sizes and entries, is called in `check`, and one opening over a
+    // type of tables would need a trait for this one `match`.
     pub fn open(sizes: (u32, u32), laws: Vec<Law>) -> Result<LawBook, Unopened<Vec<Law>>>
         ensures { Opened sizes.0 sizes.1 laws result }
     {

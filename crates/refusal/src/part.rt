@@ -22,6 +22,7 @@ pub enum Part {
 
 impl Part {
     /// The number of the part, 0 to 7.
+    // A method and no `From`: `u32::from` would not say which number it is.
     pub fn number(self) -> u32
         ensures { result ≡ part_number self }
     {
@@ -29,6 +30,7 @@ impl Part {
     }
 
     /// The part in a word, for a person.
+    // A function beside `Display`, since it cannot fail.
     pub fn word(self) -> &'static str
         ensures { result.now ≡ word_of self }
     {
@@ -45,6 +47,7 @@ impl Part {
     }
 }
 
+// By hand: the derive of `thiserror` promises no text.
 impl fmt::Display for Part {
     ghost output = { λ x. Some (word_of x) };
 

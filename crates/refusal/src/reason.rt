@@ -31,6 +31,7 @@ pub enum Reason {
 
 impl Reason {
     /// The number of the reason, 1 to 19.
+    // A method and no `From`: `u32::from` would not say which number it is.
     pub fn number(self) -> u32
         ensures { result ≡ reason_number self }
     {
@@ -38,6 +39,7 @@ impl Reason {
     }
 
     /// The reason in words, for a person.
+    // A function beside `Display`, since it cannot fail.
     pub fn sentence(self) -> &'static str
         ensures { result.now ≡ sentence_of self }
     {
@@ -67,6 +69,7 @@ impl Reason {
     }
 }
 
+// By hand: the derive of `thiserror` promises no text.
 impl fmt::Display for Reason {
     ghost output = { λ x. Some (sentence_of x) };
 

@@ -35,6 +35,7 @@ impl Refusal {
     }
 }
 
+// By hand: the derive of `thiserror` promises no text.
 impl fmt::Display for Refusal {
     ghost output = { λ x. Some (shown_of x) };
 

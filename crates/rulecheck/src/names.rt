@@ -81,6 +81,7 @@ pub struct Name {
     number: u32,
 }
 
+// By hand, as those below: the text is chosen by a number, a sign or a kind.
 impl fmt::Display for Name {
     fn fmt<W: fmt::Write>(&self, f: &mut fmt::Formatter<W>) -> fmt::Result {
         match self.known.get(self.number as usize) {

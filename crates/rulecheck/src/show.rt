@@ -42,6 +42,7 @@ impl<R: Print> Report<'_, R> {
     }
 
     // A recorded run step by step, and the verdict.
+    // Start and steps come apart, as in `check_record`.
     pub(crate) fn show_run(&self, number: u32, start: u32, steps: &[Step]) -> io::Result<()> {
         println!(self.rt; "Recorded run {number}, from {}", self.word(start))?;
         for (place, step) in steps.iter().enumerate() {
@@ -63,7 +64,12 @@ impl<R: Print> Report<'_, R> {
 
     // A word of the book.
     fn word(&self, word: u32) -> Word {
+        self.names.word(self.fluents(), word)
+    }
+
+    // The count of the book's fluents.
+    pub(crate) fn fluents(&self) -> u32 {
         let (fluents, _) = self.book.sizes();
-        self.names.word(fluents, word)
+        fluents
     }
 }

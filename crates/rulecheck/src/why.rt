@@ -4,13 +4,13 @@ use law_book::fault::Fault;
 use refusal::part::Part;
 use refusal::refusal::Refusal;
 use std::io;
-use theory::judging::Judging;
 use theory::step::Step;
 use words::literal::Literal;
 use words::word::is_below;
 
 impl<R: Print> Report<'_, R> {
     // What is wrong with a recorded run: its start, or the step that the refusal names.
+    // Start and steps come apart, as in `check_record`.
     pub(crate) fn show_why(&self, start: u32, steps: &[Step], refusal: Refusal) -> io::Result<()> {
         let Part::Step = refusal.part else {
             return self.show_broken(start);
@@ -39,7 +39,7 @@ impl<R: Print> Report<'_, R> {
 
     // Why a word is not a state: it has a bit past the fluents, or breaks laws.
     fn show_broken(&self, word: u32) -> io::Result<()> {
-        let (fluents, _) = self.book.sizes();
+        let fluents = self.fluents();
         if !is_below(word, fluents) {
             println!(self.rt; "    {word} is not below 2 to the power {fluents}")?;
         }
@@ -54,8 +54,8 @@ impl<R: Print> Report<'_, R> {
     // The literals on which what is caused and the word at the step's end differ.
     fn show_difference(&self, s: u32, step: Step) -> io::Result<()> {
         let caused = self.book.caused(s, step.action, step.to);
-        let (fluents, _) = self.book.sizes();
-        for fluent in 0..fluents {
+        // The same two loops as in `Conditions`; why they stand twice is said there.
+        for fluent in 0..self.fluents() {
             for sign in [true, false] {
                 let literal = Literal { fluent, sign };
                 let words = self.names.literal(literal);

@@ -67,8 +67,9 @@ fn check(pair: (u32, u32), states: &[u32], links: &[Link]) -> Result<Sizes, Refu
 
 impl TransitionGraph {
     /// The graph of these sizes, fluents first, states and links. A refusal hands both tables back.
-    // Not one function with the opening of a book: what both share, sizes and entries, is called in `check`, and one
-    // opening over a type of tables would need a trait for these three lines.
+    // A pair and no `Sizes`: the numbers come from outside, and `check` refuses those out of range. Not one function
+    // with the opening of a book: what both share, sizes and entries, is called in `check`, and one opening over a
+    // type of tables would need a trait for this one `match`.
     pub fn open(
         sizes: (u32, u32),
         states: Vec<u32>,

@@ -3,6 +3,7 @@ ghost use Rattle.std.specs.Prelude.{◌≡◌, ◌-◌, ◌^◌, ◌<◌, ◌↔
 ghost use Rattle.words.specs.Words.{bit, Covers};
 
 /// Bit f of the word, for the fluent f; a word has no one past bit 31.
+// A number and no `bool`: a bit is a number in the definitions.
 pub fn bit_at(word: u32, fluent: u32) -> u32
     ensures { result ≡ bit word fluent }
 {
