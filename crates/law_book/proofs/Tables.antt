@@ -36,13 +36,19 @@ pub record Passed (laws : List Law) (set grown : Literals) (i : ℕ) : Type 0 wh
 pub pass_none : (laws : List Law) (set : Literals) → Passed laws set set 0
 pass_none laws set = record { keeps = λ f v m. m; sound = λ f v m. base m; closed = λ _ k d p q. absurd (omega arith) }
 
--- the law that is read at place i
-module _ (laws : List Law) (i : ℕ) (law : Law) (l : i < length laws) (is : law ≡ get_or laws i no_law) where
-  more : (P : Law → Type 0) → AllWithin P laws 0 i → P law → AllWithin P laws 0 (i + 1)
-  more P h p = AllWithin-more P laws 0 i h (λ d. subst P (is ∙ get_or_default laws i no_law d l) p)
+-- the law is read at place i, and its head is a fluent of a word
+pub record Read (laws : List Law) (i : ℕ) (law : Law) : Type 0 where
+  pub within : i < length laws
+  pub is : law ≡ get_or laws i no_law
+  pub bounded : law.head.fluent < 32
 
-  pub stands : Contains laws law
-  stands = subst (Contains laws) (sym is) (Contains-get_or laws i no_law l)
+-- what is read stands in the table
+pub stands_at : (laws : List Law) (i : ℕ) (law : Law) → i < length laws → law ≡ get_or laws i no_law → Contains laws law
+stands_at laws i law l is = subst (Contains laws) (sym is) (Contains-get_or laws i no_law l)
+
+module _ (laws : List Law) (i : ℕ) (law : Law) (r : Read laws i law) where
+  more : (P : Law → Type 0) → AllWithin P laws 0 i → P law → AllWithin P laws 0 (i + 1)
+  more P h p = AllWithin-more P laws 0 i h (λ d. subst P (r.is ∙ get_or_default laws i no_law d r.within) p)
 
   pub gather_same : (s a : ℕ) (set grown : Literals) → Gathered laws s a set grown i → (TakesEffect s a law → ⊥) → Gathered laws s a set grown (i + 1)
   gather_same s a set grown inv n = record { keeps = inv.keeps; has = more (Effected s a grown) inv.has (λ x. absurd (n x)); only = inv.only }
@@ -54,26 +60,26 @@ module _ (laws : List Law) (i : ℕ) (law : Law) (l : i < length laws) (is : law
     closed = λ h. more (Keeps set) (inv.closed h) (λ x. absurd (n (record { kind = x.kind; body = λ g w m. inv.keeps g w (x.body g w m) })));
   }
 
-  -- the set grows by its head, a fluent of a word
-  module _ (bounded : law.head.fluent < 32) (set grown new : Literals) (joins : (f : ℕ) (v : Bool) → Member new f v ↔ Joined grown law.head f v) where
+  -- the set grows by its head
+  module _ (set grown new : Literals) (joins : (f : ℕ) (v : Bool) → Member new f v ↔ Joined grown law.head f v) where
     kept : Within grown new
     kept f v m = (joins f v).1 (inl m)
 
     has_head : Member new law.head.fluent law.head.sign
-    has_head = (joins _ _).1 (inr (bounded, refl, refl))
+    has_head = (joins _ _).1 (inr (r.bounded, refl, refl))
 
     pub gather_more : (s a : ℕ) → Gathered laws s a set grown i → TakesEffect s a law → Gathered laws s a set new (i + 1)
     gather_more s a inv takes = record {
       keeps = λ f v m. kept f v (inv.keeps f v m);
       has = more (Effected s a new) (λ j d p q x. kept _ _ (inv.has j d p q x)) (λ _. has_head);
       only = λ f v m. ⊎_elim (inv.only f v)
-          (λ x. inl (record { law = law; stands = stands; takes = takes; head = record { fluent = x.1; sign = x.2 } })) ((joins f v).0 m);
+          (λ x. inl (record { law = law; stands = stands_at laws i law r.within r.is; takes = takes; head = record { fluent = x.1; sign = x.2 } })) ((joins f v).0 m);
     }
 
     pub pass_more : Passed laws set grown i → Fires grown law → Passed laws set new (i + 1)
     pass_more inv fires = record {
       keeps = λ f v m. kept f v (inv.keeps f v m);
       sound = λ f v m. ⊎_elim (inv.sound f v)
-          (λ x. follows law stands fires.kind (λ g w n. inv.sound g w (fires.body g w n)) (record { fluent = x.1; sign = x.2 })) ((joins f v).0 m);
+          (λ x. follows law (stands_at laws i law r.within r.is) fires.kind (λ g w n. inv.sound g w (fires.body g w n)) (record { fluent = x.1; sign = x.2 })) ((joins f v).0 m);
       closed = λ h. more (Keeps set) (inv.closed (λ f v m. h f v (kept f v m))) (λ _. h _ _ has_head);
     }
