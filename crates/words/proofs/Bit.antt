@@ -106,10 +106,6 @@ bit_not m f l b =
     let x : bit_xor 4294967295 m ≡ 4294967295 - m = omega (arith, xor_add_and 4294967295 m) in
     omega (arith, ap (λ w. bit w f) x, bit-xor 4294967295 m f, bit_ones 32 f b)
 
--- a bit as the code reads it
-pub bit_last : (w f : ℕ) → bit_and (w / 2 ^ f) 1 ≡ bit w f
-bit_last w f = and_mask (w / 2 ^ f) 1
-
 -- a word that is gone when its first n bits are shifted out is below 2 ^ n
 pub below_from_shift : (w n : ℕ) → w / 2 ^ n ≡ 0 → w < 2 ^ n
 below_from_shift w n e = omega (arith, split w n, ap (λ q. q * 2 ^ n) e, mod_below w (2 ^ n) (pow_pos n))
