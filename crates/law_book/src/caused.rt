@@ -25,9 +25,9 @@ impl LawBook {
     fn with_effects(&self, s: u32, a: u32, set: Literals) -> Literals
         ensures { (f : ℕ) (v : Bool) → Member result f v ↔ Effect (laws_of self.now) s a f v ⊎ Member set f v }
     {
-        // A loop and no `fold`: the proof does not close, since `with` says what its result holds and not which value
-        // it is. And not one loop with that of `pass`: here each law is held against s, there against the set that
-        // grows.
+        // A loop and no `fold`: the check alone did not find the proof of one, since `with` says what its result holds and
+        // not which value it is. And not one loop with that of `pass`: here each law is held against s, there against the
+        // set that grows.
         let mut grown = set;
         for law in &self.laws {
             if law.takes_effect(s, a) {

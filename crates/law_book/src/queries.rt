@@ -23,7 +23,7 @@ impl LawBook {
     pub fn breaks(&self, word: u32, place: usize) -> bool
         ensures { IsTrue result ↔ Breaks (laws_of self.now) word place }
     {
-        // A `match`: with `is_some_and` the proof does not close.
+        // A `match`: with `is_some_and` the check alone did not find the proof, and nothing is shorter for it.
         match self.laws.get(place) {
             Some(law) => !law.is_obeyed(word),
             None => false,
