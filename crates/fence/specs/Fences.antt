@@ -1,5 +1,5 @@
 -- What a fence is made of, what it means, and what one more ban makes of it.
-use Rattle.std.specs.Prelude.{◌≡◌, List, [], ◌∷◌, ◌++◌, Ok, Err, Result}
+use Rattle.std.specs.Prelude.{◌≡◌, List, [], ◌∷◌, ◌++◌, take, Ok, Err, Result}
 use Rattle.refusal.specs.declared.refusal.Refusal.{Refusal}
 use Rattle.refusal.specs.Order.{First, NoneFits}
 use Rattle.theory.specs.Meaning.{Meaning, Same}
@@ -9,7 +9,7 @@ use Rattle.fence.specs.Bans.{fenced, ban_refused}
 
 -- the bans of the fence, in the order in which they came
 abbrev pub bans_of : {W : Type 0} → Fence W → List Ban
-bans_of f = f.bans.items
+bans_of f = take f.count f.bans
 
 -- what the fence means, from what the theory below means
 abbrev pub fence_meaning : {W : Type 0} → (W → Meaning) → Fence W → Meaning

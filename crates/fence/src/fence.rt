@@ -1,14 +1,16 @@
 //! A fence over a theory.
+ghost use Rattle.std.specs.Prelude.{◌≡◌, ◌≤◌, length};
+
 use crate::ban::Ban;
-use arrayvec::ArrayVec;
 
-// The most bans of a fence.
-const MOST_BANS: usize = 16;
-
-/// The theory below, held by value, and the bans.
+/// The theory below, held by value, and the first `count` bans of a plain table.
+// A table with a count and no `ArrayVec`: of that a contract sees the bans alone, so that no clause could say that a
+// refused ban leaves the places behind the last one too, and no caller would learn that there are at most sixteen.
 #[derive(Debug, Drop)]
 pub struct Fence<W> {
     pub(crate) below: W,
-    // Sixteen places in the fence itself, so one more ban never allocates.
-    pub(crate) bans: ArrayVec<Ban, MOST_BANS>,
+    pub(crate) bans: [Ban; 16],
+    pub(crate) count: usize,
+    ghost whole: { length bans ≡ 16 },
+    ghost few: { count ≤ 16 },
 }

@@ -1,8 +1,10 @@
-use Rattle.std.proofs.Common.{List, ◌∷◌, [], ◌++◌, ◌⊎◌, ◌↔◌, inl, inr, refl, rules, Any}
+use Rattle.std.proofs.Common.{List, ◌∷◌, [], ◌++◌, ◌⊎◌, ◌↔◌, ◌<◌, length, inl, inr, refl, rules, arith, Any}
+use Rattle.std.proofs.lemmas.List.{take_more_set, length-take-le}
 use Rattle.std.proofs.lemmas.List.Elements.{Contains-append_left, Contains-append_right, Contains-append_cases}
 use Rattle.theory.specs.Meaning.{Meaning, Same}
 use Rattle.fence.specs.declared.ban.Ban.{Ban}
 use Rattle.fence.specs.Bans.{Bars, fenced}
+use Rattle.fence.specs.Fences.{bans_of}
 use Rattle.fence.proofs.fence.Fence.ban.Goals as goal
 
 -- some element of two joined lists has P exactly when some element of the first or of the second has
@@ -22,4 +24,9 @@ fenced-append xs ys below = record {
 }
 
 pub returns : goal.returns
-returns g c = search (rules, fenced-append c.args.self.now.bans.items (c.args.ban ∷ []) (g.W.Judging.meaning c.args.self.now.below))
+returns g c =
+    let f = c.args.self.now in
+    let m = g.W.Judging.meaning f.below in
+    let room : f.count < length f.bans = omega arith in
+    let bans = take_more_set f.bans f.count c.args.ban room in
+    search (rules, bans, length-take-le f.count f.bans (omega arith), fenced-append (bans_of f) (c.args.ban ∷ []) m)
