@@ -3,3 +3,4 @@ pub mod Closure
 pub mod Books
 pub mod Steps
 pub mod Turns
+pub mod Permissions

@@ -1,6 +1,7 @@
 //! What a law book tells of itself: its laws, what a word breaks, and why a step is none.
-ghost use Rattle.std.specs.Prelude.{◌≡◌, ◌↔◌, IsTrue};
-ghost use Rattle.law_book.specs.Laws.{IsState, MayRun, Silent};
+ghost use Rattle.std.specs.Prelude.{◌≡◌, ◌↔◌, IsTrue, IfSome, IfNone, Any};
+ghost use Rattle.refusal.specs.Entries.{FirstBad};
+ghost use Rattle.law_book.specs.Laws.{IsState, MayRun, Permission, Permits, Silent};
 ghost use Rattle.law_book.specs.Books.{laws_of, Breaks};
 ghost use Rattle.law_book.specs.Faults.{Explained};
 ghost use Rattle.law_book.specs.Tables.{Obeyed};
@@ -72,17 +73,31 @@ impl LawBook {
         self.laws.iter().all(|law| law.is_obeyed(word))
     }
 
-    // Whether the action may run in s: an executability law lets it, or it is silent.
+    // Whether the action may run in s: an executability law lets it, or it is silent, which is to have no such law. One
+    // pass down the table: before the first of the action's executability laws there is none that could let it run.
+    // Not inlined: `fault` and `next` take a tenth fewer instructions on small books with the call.
+    #[inline(never)]
     pub(crate) fn permits(&self, s: u32, a: u32) -> bool
         ensures { IsTrue result ↔ MayRun (laws_of self.now) s a }
     {
-        self.laws.iter().any(|law| law.permits(s, a)) || self.is_silent(a)
+        match self.first_permission(a) {
+            Some(first) => some_permits(&self.laws[first..], s, a),
+            None => true,
+        }
     }
 
-    // Whether the action is silent: it has no executability law.
-    fn is_silent(&self, a: u32) -> bool
-        ensures { IsTrue result ↔ Silent (laws_of self.now) a }
+    // The place of the first executability law of the action; an action without one is silent.
+    fn first_permission(&self, a: u32) -> Option<usize>
+        ensures none { IfNone result (Silent (laws_of self.now) a) }
+        ensures some { IfSome result (FirstBad (λ law. ¬ Permission a law) (laws_of self.now)) }
     {
-        !self.laws.iter().any(|law| law.is_permission(a))
+        self.laws.iter().position(|law| law.is_permission(a))
     }
+}
+
+// Whether one of the laws is an executability law of the action whose body holds in the word.
+fn some_permits(laws: &[Law], s: u32, a: u32) -> bool
+    ensures { IsTrue result ↔ Any (Permits s a) laws.now }
+{
+    laws.iter().any(|law| law.permits(s, a))
 }
