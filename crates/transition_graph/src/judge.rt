@@ -4,6 +4,7 @@ ghost use Rattle.transition_graph.specs.Listed.{ranged_from};
 
 use crate::graph::TransitionGraph;
 use crate::link::Link;
+use crate::queries::lists;
 use theory::judging::Judging;
 
 impl Judging for TransitionGraph {
@@ -16,7 +17,7 @@ impl Judging for TransitionGraph {
     }
 
     fn is_state(&self, s: u32) -> bool {
-        self.states.contains(&s)
+        lists(&self.states, s)
     }
 
     fn is_step(&self, s: u32, a: u32, t: u32) -> bool {

@@ -7,6 +7,7 @@ ghost use Rattle.transition_graph.specs.Tables.{GoodState, GoodLink};
 
 use crate::graph::TransitionGraph;
 use crate::link::Link;
+use crate::queries::lists;
 use refusal::part::Part;
 use refusal::reason::Reason;
 use refusal::refusal::Refusal;
@@ -46,8 +47,8 @@ impl Rule<Link> for LinkRule<'_> {
 
     fn allows(&self, link: &Link) -> bool {
         link.action < self.sizes.actions
-            && self.states.contains(&link.from)
-            && self.states.contains(&link.to)
+            && lists(self.states, link.from)
+            && lists(self.states, link.to)
     }
 }
 

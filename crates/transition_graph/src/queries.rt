@@ -1,5 +1,5 @@
 //! What a transition graph is made of.
-ghost use Rattle.std.specs.Prelude.{◌≡◌};
+ghost use Rattle.std.specs.Prelude.{◌≡◌, ◌↔◌, IsTrue, Contains};
 ghost use Rattle.transition_graph.specs.Graphs.{states_of, links_of};
 
 use crate::graph::TransitionGraph;
@@ -19,4 +19,12 @@ impl TransitionGraph {
     {
         self.links.as_slice()
     }
+}
+
+// Whether the word stands in the table. A function that takes the word by value: with the library's look-up at each of
+// the three places, opening a small graph took half more time.
+pub(crate) fn lists(states: &[u32], s: u32) -> bool
+    ensures { IsTrue result ↔ Contains states.now s }
+{
+    states.contains(&s)
 }

@@ -1,7 +1,0 @@
-use Rattle.std.proofs.Common.{nat_eq}
-use Rattle.std.proofs.lemmas.Bool.Decides.{Decides-eqb}
-use Rattle.std.proofs.lemmas.List.Elements.{contains_decides, Decides-contains}
-use Rattle.transition_graph.proofs.judge.TransitionGraphJudging.is_state.Goals as goal
-
-pub returns : goal.returns
-returns c = rw (← c.deref.ensures.value) (Decides-contains _ _ _ (contains_decides nat_eq Decides-eqb _ _ _ c.contains.ensures.cases))
