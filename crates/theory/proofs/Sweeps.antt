@@ -1,6 +1,7 @@
 -- A sweep upwards over all results.
 use Rattle.std.proofs.Common.{◌≡◌, ℕ, ◌+◌, ◌^◌, ◌<◌, ◌≤◌, List, [], ◌∷◌, Some, None, Option, refl, sym, subst, ◌∙◌, arith, pow_mono}
 use Rattle.std.specs.Iterator.{Yields, DrainsIf}
+use Rattle.std.proofs.Math.Nat.{max-eq_right}
 use Rattle.words.specs.declared.ascending.Ascending.{Ascending}
 use Rattle.words.specs.Ascending.{Above, Ascends}
 use Rattle.words.specs.Smallest.{SmallestFrom}
@@ -22,7 +23,7 @@ module _ (P : ℕ → Type 0) (word : (t : ℕ) → P t → t < 2 ^ 32) where
   all_more : (from next : Option ℕ) (t : ℕ) (xs : List ℕ) → Climbs P from (Some t) next → AllFrom next xs → AllFrom from (t ∷ xs)
   unfolding AllFrom
   all_more None next t xs h k = absurd (cc)
-  all_more (Some n) next t xs h k = first h.0 (go next h.1 k)
+  all_more (Some n) next t xs h k = first h.0 (go next (subst (λ u. Above u next) (max-eq_right h.0.0) h.1) k)
     where
       go : (next : Option ℕ) → Above t next → AllFrom next xs → Listed P (t + 1) xs
       go None a k = subst (Listed P (t + 1)) (sym k) (none (λ u l x. omega (arith, word u x)))

@@ -3,6 +3,7 @@ use Rattle.std.proofs.Common.{◌≡◌, ℕ, ◌+◌, ◌^◌, ◌<◌, ◌≤�
 use Rattle.std.specs.Fn.{CalledAt}
 use Rattle.std.specs.Iterator.{YieldsThen, FindsItem}
 use Rattle.std.specs.List.{FoldsTo}
+use Rattle.std.proofs.Math.Nat.{max-eq_right}
 use denote.Param.Members.{Mut}
 use denote.Ref.{Bor}
 use Rattle.words.specs.declared.ascending.Ascending.{Ascending}
@@ -42,7 +43,7 @@ module _ (P Q R : ℕ → Type 0) (parts : (t : ℕ) → R t ↔ (P t × Q t)) (
   found_later : (from next r : Option ℕ) (x : ℕ) → Climbs P from (Some x) next → (Q x → ⊥) → Found next r → Found from r
   unfolding Found
   found_later None next r x h miss k = absurd (cc)
-  found_later (Some n) next r x h miss k = go next h.1 k
+  found_later (Some n) next r x h miss k = go next (subst (λ t. Above t next) (max-eq_right h.0.0) h.1) k
     where
       passed : NoneBetween n (x + 1) R
       passed = none_more R n x (λ u l j y. h.0.2 u l j ((parts u).0 y).0) (λ y. miss ((parts x).0 y).1)
