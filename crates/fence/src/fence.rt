@@ -4,8 +4,8 @@ ghost use Rattle.std.specs.Prelude.{◌≡◌, ◌≤◌, length};
 use crate::ban::Ban;
 
 /// The theory below, held by value, and the first `count` bans of a plain table.
-// A table with a count and no `ArrayVec`: of that a contract sees the bans alone, so that no clause could say that a
-// refused ban leaves the places behind the last one too, and no caller would learn that there are at most sixteen.
+// A table with a count and no `ArrayVec`: of that a contract sees the bans alone. No clause could then say that a refused
+// ban leaves every place of the table as it was, and no caller would learn that there are sixteen bans at most.
 #[derive(Debug, Drop)]
 pub struct Fence<W> {
     pub(crate) below: W,
