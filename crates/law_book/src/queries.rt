@@ -75,7 +75,7 @@ impl LawBook {
 
     // Whether the action may run in s: an executability law lets it, or it is silent, which is to have no such law. One
     // pass down the table: before the first of the action's executability laws there is none that could let it run.
-    // Not inlined: with the call `fault` and `next` take a fifth fewer instructions on books of a few laws.
+    // Not inlined: with the call, `next` takes a fifth fewer instructions on Drain.
     #[inline(never)]
     pub(crate) fn permits(&self, s: u32, a: u32) -> bool
         ensures { IsTrue result ↔ MayRun (laws_of self.now) s a }
